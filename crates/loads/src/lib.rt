@@ -1,0 +1,7 @@
+//! Loads: tenths of an interval as the cell sends them, whole intervals, the window of samples, settings, kilograms and prices.
+
+mod interval;
+mod pricing;
+
+pub use interval::Interval;
+pub use pricing::price;

@@ -1,0 +1,4 @@
+-- Bits in words
+pub mod Packed-bits
+pub mod Bases
+pub mod Marking
