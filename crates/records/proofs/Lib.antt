@@ -2,3 +2,5 @@
 pub mod Packed-bits
 pub mod Bases
 pub mod Marking
+pub mod Lawful
+pub mod Rows-read

@@ -5,9 +5,9 @@ use Prim.Native.Nat.{ℕ, zero, suc, _+_, _-_, _*_, _/_, _%_, _^_, _≤_, _<_}
 use native.Mathlib.Omega.{arith}
 use native.Mathlib.Nat.{mul-le-mul-right}
 use lib.ListN.{length, getD, set, take, drop}
-use Rattle.std.proofs.shelf.Bits.{pow-add, shr-split, shr-below}
+use Rattle.std.proofs.shelf.Bits.{pow-add, shr-split, shr-below, div-mul-add}
 use Rattle.std.proofs.shelf.Digits.{number-push}
-use Rattle.std.proofs.shelf.Lists.{drop-more, length-drop, take-more-set}
+use Rattle.std.proofs.shelf.Lists.{drop-more, drop-all, length-drop, take-all, take-more-set}
 use Rattle.rules.specs.Lists.{number-of}
 
 -- ---- Words behind a number
@@ -82,3 +82,35 @@ put-across p held bits front over value e =
 pub word-more : (words : List ℕ) (next word : ℕ) → next < length words → number-of (2 ^ 64) 0 (take (next + 1) (set words next word)) ≡ number-of (2 ^ 64) 0 (take next words) * 2 ^ 64 + word
 unfolding number-of
 word-more words next word inside = ap (number-of (2 ^ 64) 0) (take-more-set words next word inside) ∙ number-push (2 ^ 64) (take next words) word
+
+-- ---- Fields one after another
+
+-- one field more stands before the rest
+pub one-more : (n p v w l k r t : ℕ) → k + w ≡ l → n ≡ p * 2 ^ l + r → r ≡ v * 2 ^ k + t → n ≡ (p * 2 ^ w + v) * 2 ^ k + t
+one-more n p v w l k r t e so-far next =
+    let place : 2 ^ l ≡ 2 ^ w * 2 ^ k = ap (λ i. 2 ^ i) (omega arith) ∙ pow-add 2 w k in
+    omega (arith, ap (λ i. p * i) place)
+
+-- with eight bits left, all that stands before them
+pub before-check : (n p l r : ℕ) → l ≡ 8 → n ≡ p * 2 ^ l + r → r < 2 ^ 8 → p ≡ n / 256
+before-check n p l r e so-far small =
+    let here : n ≡ p * 256 + r = so-far ∙ ap (λ i. p * 2 ^ i + r) e in
+    sym (ap (λ i. i / 256) here ∙ div-mul-add p 256 r small)
+
+-- eight bits that are left lie in the accumulator
+pub eight-left : (words : List ℕ) (next held bits : ℕ) → length words ≡ 4 → held < 2 ^ bits → bits ≤ 64 → next ≤ 4 → bits + 64 * (4 - next) ≡ 8 → number-of (2 ^ 64) held (drop next words) < 2 ^ 8
+unfolding number-of
+eight-left words next held bits size small few inside count =
+    let b8 : bits ≡ 8 = omega arith in
+    let none : drop next words ≡ [] = drop-all next words (omega arith) in
+    rw (ap (number-of (2 ^ 64) held) none) (rw b8 at small)
+
+-- ---- All bits are written
+
+pub all-written : (words : List ℕ) (next held bits : ℕ) → length words ≡ 4 → held < 2 ^ bits → bits < 64 → next ≤ 4 → 64 * next + bits ≡ 256
+    → number-of (2 ^ 64) 0 words ≡ number-of (2 ^ 64) 0 (take next words) * 2 ^ bits + held
+all-written words next held bits size small few inside count =
+    let b0 : bits ≡ 0 = omega arith in
+    let h0 : held < 2 ^ 0 = rw b0 at small in
+    let all : take next words ≡ words = take-all next words (omega arith) in
+    omega (arith, ap (number-of (2 ^ 64) 0) all, ap (λ b. number-of (2 ^ 64) 0 (take next words) * 2 ^ b) b0)

@@ -2,3 +2,6 @@
 pub mod Widths
 pub mod Streams
 pub mod Meaning
+pub mod Records-of
+pub mod Fields-of
+pub mod Verdicts

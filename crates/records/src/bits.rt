@@ -58,6 +58,7 @@ pub(crate) fn beside(high: u64, bits: u32, low: u64) -> u64
 }
 
 /// Takes fields off four words, from the most significant bit on.
+#[derive(Drop)]
 pub(crate) struct Reader {
     words: [u64; 4],
     next: usize,
@@ -109,6 +110,7 @@ impl Reader {
 }
 
 /// Lays fields side by side in four words, from the most significant bit on.
+#[derive(Drop)]
 pub(crate) struct Writer {
     words: [u64; 4],
     next: usize,
@@ -151,5 +153,14 @@ impl Writer {
             self.held = low_bits(value, over);
             self.bits = over;
         }
+    }
+
+    /// The words, once all bits are written.
+    pub(crate) fn finish(self) -> [u64; 4]
+        requires sound { ⌜ Sound self ⌝ }
+        requires full { ⌜ bits-written self ≡ 256 ⌝ }
+        ensures { λ r. ⌜ number-of (2 ^ 64) 0 r ≡ written self ⌝ }
+    {
+        self.words
     }
 }
