@@ -4,3 +4,4 @@ pub mod Bases
 pub mod Marking
 pub mod Lawful
 pub mod Rows-read
+pub mod Writing

@@ -5,3 +5,4 @@ pub mod Meaning
 pub mod Records-of
 pub mod Fields-of
 pub mod Verdicts
+pub mod Lines-of

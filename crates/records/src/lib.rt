@@ -2,6 +2,7 @@
 
 mod bits;
 mod fields;
+mod line;
 mod mark;
 mod marks;
 mod record;
