@@ -9,6 +9,7 @@ mod record;
 mod row;
 mod words;
 
+pub use line::line_number;
 pub use mark::Mark;
 pub use mark::NoMark;
 pub use record::Record;

@@ -1,11 +1,16 @@
 //! The ticket line of a record.
 
 ghost use mathlib.Core.Path.{_≡_};
+ghost use mathlib.Core.Bool.{cond, _&&_};
 ghost use mathlib.Core.List.{[], _∷_, _++_};
+ghost use mathlib.Core.Option.{none, some};
 ghost use Prim.Native.Nat.{ℕ, _+_, _-_, _<_, _≤_};
-ghost use lib.ListN.{length};
+ghost use lib.Dec.{eqb};
+ghost use lib.ListN.{length, take};
+ghost use Rattle.rules.specs.Lists.{told};
+ghost use Rattle.rules.specs.Terminal.{all-digits, number-in};
 ghost use Rattle.rules.specs.Tickets.{decimal as decimal-of, tare-letters, ticket};
-ghost use Rattle.records.specs.Lines-of.{text-of};
+ghost use Rattle.records.specs.Lines-of.{text-of, digits-number};
 ghost use Rattle.records.specs.Records-of.{tare-kind-of, record-of};
 use crate::record::Record;
 use crate::record::Tare;
@@ -115,4 +120,29 @@ impl Record {
         line.decimal(9, self.price(), b'\n');
         line.finish()
     }
+}
+
+/// The number that digits write; none where some character is no digit.
+fn read_decimal(text: &[u8]) -> Option<u64>
+    requires { ⌜ length (now text) ≤ 19 ⌝ }
+    ensures { λ r. ⌜ told (λ n. n) r ≡ cond (all-digits (now (text .entry))) (some (digits-number (now (text .entry)))) none ⌝ }
+{
+    let mut number = 0;
+    for byte in text {
+        if *byte < b'0' || *byte > b'9' {
+            return None;
+        }
+        number = number * 10 + u64::from(*byte - b'0');
+    }
+    Some(number)
+}
+
+/// The number of the record whose line this may be: its first ten characters; none unless it has 76 bytes and begins with ten digits.
+pub fn line_number(line: &[u8]) -> Option<u64>
+    ensures { λ r. ⌜ told (λ n. n) r ≡ cond (eqb (length (now (line .entry))) 76 && all-digits (take 10 (now (line .entry)))) (some (number-in (now (line .entry)))) none ⌝ }
+{
+    if line.len() != 76 {
+        return None;
+    }
+    read_decimal(&line[0..10])
 }
