@@ -4,6 +4,7 @@ ghost use mathlib.Core.Option.{none, some};
 ghost use lib.Dec.{ltb};
 ghost use Rattle.rules.specs.Lists.{told};
 ghost use Rattle.rules.specs.Loads.{kg-of};
+ghost use Rattle.rules.specs.Settings.{code-of-kg};
 ghost use Rattle.loads.specs.Intervals-of.{interval-code};
 
 /// The weight that one interval stands for: 1, 2, 5, 10, 20 or 50 kg.
@@ -54,5 +55,17 @@ impl Interval {
         } else {
             None
         }
+    }
+
+    /// The interval of so many kg, if it is one of the six.
+    pub fn from_kg(kg: u32) -> Option<Interval>
+        ensures { λ r. ⌜ told interval-code r ≡ code-of-kg kg ⌝ }
+    {
+        for interval in INTERVALS {
+            if u32::from(interval.kg()) == kg {
+                return Some(interval);
+            }
+        }
+        None
     }
 }

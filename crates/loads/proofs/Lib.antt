@@ -1,0 +1,4 @@
+pub mod Places
+pub mod Joins
+pub mod Extents
+pub mod Passing

@@ -1,0 +1,2 @@
+-- Lines and the rows that they write
+pub mod Pairs
