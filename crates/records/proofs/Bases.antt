@@ -74,7 +74,7 @@ four-words xs size =
     let rest : (at : ℕ) → drop 8 (drop at xs) ≡ drop (at + 8) xs = λ at. drop-drop 8 at xs in
     let long : (at : ℕ) → at + 8 ≤ 32 → 8 ≤ length (drop at xs) = λ at inside. omega (arith, length-drop at xs) in
     let step : (s at : ℕ) → at + 8 ≤ 32 → number-of 256 s (drop at xs) ≡ number-of 256 (s * 2 ^ 64 + word xs at) (drop (at + 8) xs) =
-          λ s at inside. eight-less s (drop at xs) (long at inside) ∙ ap (number-of 256 (s * 2 ^ 64 + word xs at)) (rest at) in
+    λ s at inside. eight-less s (drop at xs) (long at inside) ∙ ap (number-of 256 (s * 2 ^ 64 + word xs at)) (rest at) in
     let end : (s : ℕ) → number-of 256 s (drop 32 xs) ≡ s = λ s. ap (number-of 256 s) (drop-all 32 xs (omega arith)) in
     sym (step 0 0 (omega arith) ∙ step _ 8 (omega arith) ∙ step _ 16 (omega arith) ∙ step _ 24 (omega arith) ∙ end _)
 
@@ -82,7 +82,7 @@ pub words-are : (xs : List ℕ) → length xs ≡ 32 → Under 256 xs → word x
 words-are xs size u =
     let ws : List ℕ = word xs 0 ∷ word xs 8 ∷ word xs 16 ∷ word xs 24 ∷ [] in
     let small : Under (2 ^ 64) ws =
-          (word-below xs 0 size (omega arith) u, (word-below xs 8 size (omega arith) u, (word-below xs 16 size (omega arith) u, (word-below xs 24 size (omega arith) u, tt)))) in
+    (word-below xs 0 size (omega arith) u, (word-below xs 8 size (omega arith) u, (word-below xs 16 size (omega arith) u, (word-below xs 24 size (omega arith) u, tt)))) in
     sym (digits-of-number (2 ^ 64) 4 ws refl small) ∙ ap (digits-of (2 ^ 64) 4) (four-words xs size)
 
 -- ---- Words to bytes

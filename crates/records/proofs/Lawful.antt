@@ -14,6 +14,7 @@ use Rattle.rules.specs.Records.{Record, lawful-mark, lawful-tare, lawful, unnum
 use Rattle.loads.specs.declared.interval.Interval.{Interval}
 use Rattle.loads.specs.declared.interval.Interval.the-variants.{One, Two, Five, Ten, Twenty, Fifty}
 use Rattle.loads.specs.Intervals-of.{interval-code}
+use Rattle.records.specs.Records-of.{bounded}
 
 pub code-at-most : (i : Interval) → interval-code i ≤ 5
 code-at-most One = omega arith
@@ -33,11 +34,14 @@ module _ (n interval gross kind tare day minute unit : ℕ) (mark : List ℕ) (n
   the-record = numbered n (unnumbered interval gross kind tare day minute unit mark)
 
   -- what is left to look at
-  pub lawful-by :
-      lawful the-record
-      ≡ (leb 1 n && (leb minute 1439 && (leb gross 10009 && (leb tare 10000 && (lawful-tare kind tare && (leb 1 (gross - tare) && leb unit 1000000))))))
+  pub lawful-by : lawful the-record ≡ (bounded n minute gross tare (gross - tare) unit && lawful-tare kind tare)
   unfolding lawful
-  lawful-by = rw (lt-ltb n (2 ^ 32) n-fits, lt-ltb day (2 ^ 16) day-fits, le-leb interval 5 code, known, eq-eqb _ _ refl, net-tells gross tare (leb unit 1000000))
+  lawful-by =
+      rw (lt-ltb n (2 ^ 32) n-fits, lt-ltb day (2 ^ 16) day-fits, le-leb interval 5 code, known, eq-eqb _ _ refl, net-tells gross tare (leb unit 1000000))
+      (reordered (leb 1 n) (leb minute 1439) (leb gross 10009) (leb tare 10000) (lawful-tare kind tare) (leb 1 (gross - tare)) (leb unit 1000000))
+    where
+      reordered : (a b c d e f g : Bool) → (a && (b && (c && (d && (e && (f && g)))))) ≡ ((a && (b && (g && (c && (d && f))))) && e)
+      reordered a b c d e f g = grind (arith, tells)
 
 -- ---- What a lawful record has
 
@@ -85,3 +89,39 @@ same-record n day minute unit i j g k l t s net price m o code kind tare mark ne
       price = sym price-is x;
       mark = mark x;
     }
+
+-- ---- A record in the fields of a row
+
+module _ (r : Record) where
+  pub unbounded : bounded (r .number) (r .minute) (r .gross) (r .tare) (r .net) (r .unit-price) ≡ false → lawful r ≡ false
+  unfolding lawful
+  unbounded h = grind (arith, tells)
+
+  pub all-right :
+      bounded (r .number) (r .minute) (r .gross) (r .tare) (r .net) (r .unit-price) ≡ true → r .number < 2 ^ 32 → r .day < 2 ^ 16 → r .interval ≤ 5
+      → lawful-tare (r .tare-kind) (r .tare) ≡ true → r .net ≡ r .gross - r .tare → r .price ≡ price-of (r .net * kg-of (r .interval)) (r .unit-price) → lawful-mark (r .mark) ≡ true
+      → lawful r ≡ true
+  unfolding lawful
+  all-right numbers number day interval tare net price mark =
+      let sum : r .net + r .tare ≡ r .gross = grind (arith, tells) in
+      let low : leb 1 (r .number) ≡ true = grind (arith, tells) in
+      let minute : leb (r .minute) 1439 ≡ true = grind (arith, tells) in
+      let unit : leb (r .unit-price) 1000000 ≡ true = grind (arith, tells) in
+      let gross : leb (r .gross) 10009 ≡ true = grind (arith, tells) in
+      let heavy : leb (r .tare) 10000 ≡ true = grind (arith, tells) in
+      let some : leb 1 (r .net) ≡ true = grind (arith, tells) in
+      rw (
+        low,
+        lt-ltb (r .number) (2 ^ 32) number,
+        lt-ltb (r .day) (2 ^ 16) day,
+        minute,
+        le-leb (r .interval) 5 interval,
+        gross,
+        heavy,
+        tare,
+        some,
+        eq-eqb (r .net + r .tare) (r .gross) sum,
+        unit,
+        eq-eqb (r .price) (price-of (r .net * kg-of (r .interval)) (r .unit-price)) price,
+        mark,
+      )

@@ -109,7 +109,7 @@ code-more m i v ok inside e =
     let whole = mark-below m ok in
     let more : number-of 64 0 (take (i + 1) m) ≡ number-of 64 0 (take i m) * 64 + getD m i 0 = number-more 64 m i (omega (arith, known .0)) in
     let part : number-of 64 0 m ≡ number-of 64 (number-of 64 0 (take (i + 1) m)) (drop (i + 1) m) =
-          ap (number-of 64 0) (sym (take-append-drop (i + 1) m)) ∙ numberAfter-append 64 0 (take (i + 1) m) (drop (i + 1) m) in
+    ap (number-of 64 0) (sym (take-append-drop (i + 1) m)) ∙ numberAfter-append 64 0 (take (i + 1) m) (drop (i + 1) m) in
     let least : number-of 64 0 (take (i + 1) m) ≤ number-of 64 (number-of 64 0 (take (i + 1) m)) (drop (i + 1) m) = numberAfter-ge 64 (number-of 64 0 (take (i + 1) m)) (drop (i + 1) m) (omega arith) in
     let here : getD m i 0 < 64 = all-getD (λ c. c < 64) m i 0 (omega (arith, known .0)) under in
     (omega arith, omega arith, omega arith)
@@ -153,5 +153,5 @@ unfolding lawful-mark typed-mark
 long-is-no-mark bytes long =
     let none : 8 - length bytes ≡ 0 = omega arith in
     let size : length (map code-of bytes ++ replicate (8 - length bytes) 0) ≡ length bytes =
-          length-append (map code-of bytes) (replicate (8 - length bytes) 0) ∙ omega (arith, length-map bytes code-of, length-replicate {A = ℕ} (8 - length bytes) 0) in
+    length-append (map code-of bytes) (replicate (8 - length bytes) 0) ∙ omega (arith, length-map bytes code-of, length-replicate {A = ℕ} (8 - length bytes) 0) in
     rw (ne-eqb (length (map code-of bytes ++ replicate (8 - length bytes) 0)) 8 (λ z. absurd (omega arith)))

@@ -121,8 +121,10 @@ module _ (row : List ℕ) (size : length row ≡ 32) (bytes : Under 256 row) whe
       let words : digits-of (2 ^ 64) 4 (number-of 256 0 row) ≡ replicate 4 (2 ^ 64 - 1) = same-list (digits-of (2 ^ 64) 4 (number-of 256 0 row)) (replicate 4 (2 ^ 64 - 1)) e in
       let all : number-of 256 0 row ≡ number-of (2 ^ 64) 0 (replicate 4 (2 ^ 64 - 1)) = sym words-number ∙ ap (number-of (2 ^ 64) 0) words in
       blank-row-is-blank row (sym (digits-of-number 256 32 row size bytes) ∙ ap (digits-of 256 32) all ∙ blank-digits)
+
   blank-then-ones : is-blank row ≡ true → same (digits-of (2 ^ 64) 4 (number-of 256 0 row)) (replicate 4 (2 ^ 64 - 1)) ≡ true
   blank-then-ones e = ap (λ r. same (digits-of (2 ^ 64) 4 (number-of 256 0 r)) (replicate 4 (2 ^ 64 - 1))) (is-blank-row row e) ∙ blank-words
+
   pub blank-number : is-blank row ≡ same (digits-of (2 ^ 64) 4 (number-of 256 0 row)) (replicate 4 (2 ^ 64 - 1))
   blank-number = both (is-blank row) (same (digits-of (2 ^ 64) 4 (number-of 256 0 row)) (replicate 4 (2 ^ 64 - 1))) blank-then-ones ones-then-blank
     where
@@ -165,7 +167,7 @@ module _ (row : List ℕ) (size : length row ≡ 32) (bytes : Under 256 row) whe
         let mark : number-of 64 0 (digits-of 64 8 (f .mark)) ≡ f .mark = number-of-digits 64 8 (f .mark) (omega arith) (fit .1 .1 .1 .1 .1 .1 .1 .1 .1 .1 .1 .0) in
         let list : fields (record-in f) ≡ field-list f = rw (kind, spare, mark) in
         let digits : digits-of 256 31 (side-by-side 0 (fields (record-in f))) ≡ take 31 row =
-              ap (λ fs. digits-of 256 31 (side-by-side 0 fs)) list ∙ ap (digits-of 256 31) (sym here) ∙ digits-of-number 256 31 (take 31 row) body-size body-bytes in
+        ap (λ fs. digits-of 256 31 (side-by-side 0 fs)) list ∙ ap (digits-of 256 31) (sym here) ∙ digits-of-number 256 31 (take 31 row) body-size body-bytes in
         ap (λ ds. ds ++ (zeros ds ∷ [])) digits
         ∙ ap (λ z. take 31 row ++ (z ∷ [])) (sym (eqb-true (getD row 31 0) (zeros (take 31 row)) checked)) ∙ sym split
 
@@ -176,7 +178,7 @@ module _ (row : List ℕ) (size : length row ≡ 32) (bytes : Under 256 row) whe
         let v : ℕ = side-by-side 0 (fields (record-in f)) in
         let fits = lawful-fits (record-in f) ok in
         let same-body : number-of 256 0 (take 31 row) ≡ v =
-              ap (λ r. number-of 256 0 (take 31 r)) (sym e) ∙ number-in-front 256 31 v (zeros (digits-of 256 31 v) ∷ []) (omega arith) (side-below (fields (record-in f)) fits) in
+        ap (λ r. number-of 256 0 (take 31 r)) (sym e) ∙ number-in-front 256 31 v (zeros (digits-of 256 31 v) ∷ []) (omega arith) (side-below (fields (record-in f)) fits) in
         let mine = read-back (number-of 256 0 (take 31 row)) 0 (field-list f) fit here in
         let its = read-back (number-of 256 0 (take 31 row)) 0 (fields (record-in f)) fits same-body in
         (sym (mine 0 (omega arith)) ∙ its 0 (omega arith), sym (mine 12 (omega arith)) ∙ its 12 (omega arith))

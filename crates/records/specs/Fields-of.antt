@@ -1,6 +1,6 @@
 -- The fields of a row as plain numbers: the list that the rules lay side by side, and the record in them
 use mathlib.Core.Path.{_≡_}
-use mathlib.Core.Bool.{Bool, false, _&&_}
+use mathlib.Core.Bool.{Bool, true, false, _&&_}
 use mathlib.Core.List.{List, [], _∷_}
 use Prim.Native.Nat.{ℕ, _-_, _^_, _<_}
 use lib.Dec.{eqb}
@@ -45,4 +45,4 @@ is-record f = eqb (f .kind) 0xa1 && (eqb (f .spare) (2 ^ 37 - 1) && lawful (reco
 -- the tare of a kind and a value; where there is none, they are not lawful
 abbrev pub TareSays : (kind value : ℕ) → Option Tare → Type 0
 TareSays kind value None = lawful-tare kind value ≡ false
-TareSays kind value (Some t) = (tare-kind-of t ≡ kind) × (tare-value-of t ≡ value)
+TareSays kind value (Some t) = (lawful-tare kind value ≡ true) × (tare-kind-of t ≡ kind) × (tare-value-of t ≡ value)

@@ -9,7 +9,7 @@ ghost use Rattle.rules.specs.Lists.{number-of, told};
 ghost use Rattle.rules.specs.Records.{lawful};
 ghost use Rattle.rules.specs.Rows.{fields as fields-of, side-by-side};
 ghost use Rattle.records.specs.Fields-of.{field-list, Fits-widths, is-record, record-in, TareSays};
-ghost use Rattle.records.specs.Records-of.{record-of};
+ghost use Rattle.records.specs.Records-of.{bounded, record-of};
 use crate::bits::Field;
 use crate::bits::Reader;
 use crate::bits::Writer;
@@ -17,6 +17,7 @@ use crate::mark::Mark;
 use crate::record::Record;
 use crate::record::Tare;
 use crate::record::Weight;
+use crate::record::are_bounded;
 use loads::Interval;
 
 /// What the field of the kind holds in the row of a record.
@@ -116,19 +117,33 @@ impl Fields {
     fn tare(self) -> Option<Tare>
         ensures { λ r. ⌜ TareSays (self .«tare_kind») (self .tare) r ⌝ }
     {
-        match self.tare_kind {
-            0 if self.tare == 0 => Some(Tare::None),
-            1 => Some(Tare::Weighed(Weight(self.tare))),
-            2 => Some(Tare::Preset(Weight(self.tare))),
+        match (self.tare_kind, self.tare > 0) {
+            (0, false) => Some(Tare::None),
+            (1, true) => Some(Tare::Weighed(Weight(self.tare))),
+            (2, true) => Some(Tare::Preset(Weight(self.tare))),
             _ => None,
         }
+    }
+
+    /// Whether the numbers in the fields lie within their bounds.
+    fn are_bounded(self) -> bool
+        ensures { λ r. ⌜ r ≡ bounded (self .number) (self .minute) (self .gross) (self .tare) (self .net) (self .«unit_price») ⌝ }
+    {
+        are_bounded(
+            self.number,
+            self.minute,
+            Weight(self.gross),
+            Weight(self.tare),
+            Weight(self.net),
+            self.unit_price,
+        )
     }
 
     /// The record in the fields, if it is lawful.
     pub(crate) fn record(self) -> Option<Record>
         ensures { λ r. ⌜ told record-of r ≡ cond (is-record self) (some (record-in self)) none ⌝ }
     {
-        if self.kind != KIND || self.spare != SPARE {
+        if self.kind != KIND || self.spare != SPARE || !self.are_bounded() {
             return None;
         }
         let interval = Interval::from_code(self.interval)?;
@@ -146,9 +161,10 @@ impl Fields {
             unit_price: self.unit_price,
             mark,
         };
-        if self.net != found.net().0 || u64::from(self.price) != found.price() || !found.is_lawful() {
-            return None;
+        if self.net == found.net().0 && u64::from(self.price) == found.price() {
+            Some(found)
+        } else {
+            None
         }
-        Some(found)
     }
 }

@@ -6,7 +6,7 @@ ghost use Rattle.rules.specs.Lists.{told};
 ghost use Rattle.rules.specs.Loads.{kg-of, price-of};
 ghost use Rattle.rules.specs.Records.{lawful-tare, lawful, earlier as earlier-stamp};
 ghost use Rattle.loads.specs.Intervals-of.{interval-code};
-ghost use Rattle.records.specs.Records-of.{tare-kind-of, tare-value-of, record-of};
+ghost use Rattle.records.specs.Records-of.{tare-kind-of, tare-value-of, bounded, record-of};
 use crate::mark::Mark;
 use loads::Interval;
 use loads::price;
@@ -56,6 +56,23 @@ impl Tare {
     }
 }
 
+/// Whether the numbers of a record lie within their bounds.
+pub(crate) fn are_bounded(
+    number: u32,
+    minute: u16,
+    gross: Weight,
+    tare: Weight,
+    net: Weight,
+    unit_price: u32,
+) -> bool
+    ensures { λ r. ⌜ r ≡ bounded number minute (gross .0) (tare .0) (net .0) «unit_price» ⌝ }
+{
+    if number == 0 || minute > 1439 || unit_price > 1_000_000 {
+        return false;
+    }
+    gross.0 <= 10_009 && tare.0 <= 10_000 && net.0 > 0
+}
+
 /// A weighing as it is stored. Net weight and price follow from the rest.
 #[derive(Clone, Copy)]
 pub struct Record {
@@ -85,20 +102,25 @@ impl Record {
     pub fn price(self) -> u64
         ensures { λ r. ⌜ r ≡ record-of self .price ⌝ }
     {
-        price(u32::from(self.net().0) * u32::from(self.interval.kg()), self.unit_price)
+        price(
+            u32::from(self.net().0) * u32::from(self.interval.kg()),
+            self.unit_price,
+        )
     }
 
     /// Whether it may be stored.
     pub fn is_lawful(self) -> bool
         ensures { λ r. ⌜ r ≡ lawful (record-of self) ⌝ }
     {
-        if self.number == 0 || self.minute > 1439 || self.unit_price > 1_000_000 {
-            return false;
-        }
-        if self.gross.0 > 10_009 || self.tare.weight().0 > 10_000 || self.net().0 == 0 {
-            return false;
-        }
-        self.tare.is_lawful()
+        let bounded = are_bounded(
+            self.number,
+            self.minute,
+            self.gross,
+            self.tare.weight(),
+            self.net(),
+            self.unit_price,
+        );
+        bounded && self.tare.is_lawful()
     }
 
     /// Whether its stamp, day and then minute, is earlier than that of another.

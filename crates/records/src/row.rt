@@ -52,7 +52,10 @@ fn is_blank(words: [u64; 4]) -> bool
 fn zero_bits(words: [u64; 4]) -> u64
     ensures { λ r. ⌜ r + ones (number-of (2 ^ 64) 0 words / 256) ≡ 248 ⌝ }
 {
-    let set = words[0].count_ones() + words[1].count_ones() + words[2].count_ones() + (words[3] >> 8).count_ones();
+    let set = words[0].count_ones()
+        + words[1].count_ones()
+        + words[2].count_ones()
+        + (words[3] >> 8).count_ones();
     u64::from(248 - set)
 }
 

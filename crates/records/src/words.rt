@@ -26,7 +26,12 @@ fn word_at(row: &[u8; 32], at: usize) -> u64
 pub(crate) fn words_of(row: &[u8; 32]) -> [u64; 4]
     ensures { λ r. ⌜ r ≡ digits-of (2 ^ 64) 4 (number-of 256 0 (now (row .entry))) ⌝ }
 {
-    [word_at(row, 0), word_at(row, 8), word_at(row, 16), word_at(row, 24)]
+    [
+        word_at(row, 0),
+        word_at(row, 8),
+        word_at(row, 16),
+        word_at(row, 24),
+    ]
 }
 
 /// The row of words.

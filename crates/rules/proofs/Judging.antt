@@ -31,7 +31,7 @@ packing-checked r =
 found : (looks-blank looks-checked : Bool) (fields-hold : Option Record) (r : Record)
     → (looks-blank ≡ true → fields-hold ≡ none) → (fields-hold ≡ some r → looks-checked ≡ true)
     → let said : Verdict = cond looks-blank blank (cond looks-checked (when-some fields-hold wrong-fields intact) wrong-check) in
-      (said ≡ intact r → fields-hold ≡ some r) × (fields-hold ≡ some r → said ≡ intact r)
+    (said ≡ intact r → fields-hold ≡ some r) × (fields-hold ≡ some r → said ≡ intact r)
 found true b f r one two = ((λ e. cc), λ e. cc (one refl))
 found false true none r one two = ((λ e. cc), λ e. cc)
 found false true (some q) r one two = ((λ e. cc), λ e. cc)

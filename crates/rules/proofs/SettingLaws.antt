@@ -41,8 +41,8 @@ passes class kg max s = by-class (bounds-of class) refl (code-of-kg kg) refl
         record {
           good = record {
             class = ⊎-elim
-              (λ three. inl (h .1 ∙ three .0, rw (three .1, ← h .3) at (h .0)))
-              (λ four. inr (h .1 ∙ four .0, rw (four .1, ← h .3) at (h .0))) (class-found class b is);
+                (λ three. inl (h .1 ∙ three .0, rw (three .1, ← h .3) at (h .0)))
+                (λ four. inr (h .1 ∙ four .0, rw (four .1, ← h .3) at (h .0))) (class-found class b is);
             interval = rw (h .2) (k .0);
           };
           class-is = h .1;

@@ -23,8 +23,8 @@ returns-then-byte-lt48 c =
     let text = c .args .text .now in
     let i : ℕ = c .loop-byte .byte-index in
     let bad : all-digits (drop i text) ≡ false = elim (c .then-byte-lt48 .came) [
-      then-byte-lt48·by·then-byte-lt48 w ↦ none-here text i (c .loop-byte-test .taken) (inl (w .if-byte-lt48 .taken))
-    | then-byte-lt48·by·else-byte-lt48·then-byte-gt57 w ↦ none-here text i (c .loop-byte-test .taken) (inr (w .if-byte-gt57 .taken))
+      | then-byte-lt48·by·then-byte-lt48 w ↦ none-here text i (c .loop-byte-test .taken) (inl (w .if-byte-lt48 .taken))
+      | then-byte-lt48·by·else-byte-lt48·then-byte-gt57 w ↦ none-here text i (c .loop-byte-test .taken) (inr (w .if-byte-gt57 .taken))
     ] in
     sym (ap (λ b. cond b (some (digits-number text)) none) (c .loop-byte .inv .2 ∙ bad))
 

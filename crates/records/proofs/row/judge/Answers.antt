@@ -69,14 +69,14 @@ pub returns-in-Some : need.returns-in-Some
 returns-in-Some c =
     let row = c .args .row .now in
     fields-say row (c .words-of-words .result) (c .told-row) (c .fits-row) (c .words-of-words .ensures) (c .read .result) (c .read .ensures .body) (c .read .ensures .fit)
-        (some (record-of (c .in-Some .found))) (c .in-Some .ensures tt)
-        (looks-blank row (c .words-of-words .result) (c .told-row) (c .fits-row) (c .words-of-words .ensures) (c .is-blank .result) false (c .is-blank .ensures) (c .if-is-blank .left))
-        (looks-checked row (c .words-of-words .result) (c .told-row) (c .fits-row) (c .words-of-words .ensures) (c .is-checked .result) true (c .is-checked .ensures) (c .if-not-is-checked .left))
+    (some (record-of (c .in-Some .found))) (c .in-Some .ensures tt)
+    (looks-blank row (c .words-of-words .result) (c .told-row) (c .fits-row) (c .words-of-words .ensures) (c .is-blank .result) false (c .is-blank .ensures) (c .if-is-blank .left))
+    (looks-checked row (c .words-of-words .result) (c .told-row) (c .fits-row) (c .words-of-words .ensures) (c .is-checked .result) true (c .is-checked .ensures) (c .if-not-is-checked .left))
 
 pub returns-in-None : need.returns-in-None
 returns-in-None c =
     let row = c .args .row .now in
     fields-say row (c .words-of-words .result) (c .told-row) (c .fits-row) (c .words-of-words .ensures) (c .read .result) (c .read .ensures .body) (c .read .ensures .fit)
-        none (c .in-None .ensures tt)
-        (looks-blank row (c .words-of-words .result) (c .told-row) (c .fits-row) (c .words-of-words .ensures) (c .is-blank .result) false (c .is-blank .ensures) (c .if-is-blank .left))
-        (looks-checked row (c .words-of-words .result) (c .told-row) (c .fits-row) (c .words-of-words .ensures) (c .is-checked .result) true (c .is-checked .ensures) (c .if-not-is-checked .left))
+    none (c .in-None .ensures tt)
+    (looks-blank row (c .words-of-words .result) (c .told-row) (c .fits-row) (c .words-of-words .ensures) (c .is-blank .result) false (c .is-blank .ensures) (c .if-is-blank .left))
+    (looks-checked row (c .words-of-words .result) (c .told-row) (c .fits-row) (c .words-of-words .ensures) (c .is-checked .result) true (c .is-checked .ensures) (c .if-not-is-checked .left))

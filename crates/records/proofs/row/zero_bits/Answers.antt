@@ -36,5 +36,5 @@ returns c =
     let ws = c .args .words in
     let size : length ws ≡ 4 = search needs in
     let all : ones (number-of (2 ^ 64) 0 ws / 256) ≡ ones (getD ws 0 0) + ones (getD ws 1 0) + ones (getD ws 2 0) + ones (getD ws 3 0 / 256) =
-          ap (λ l. ones (number-of (2 ^ 64) 0 l / 256)) (spread ws size) ∙ ones-of-words (getD ws 0 0) (getD ws 1 0) (getD ws 2 0) (getD ws 3 0) (omega arith) (omega arith) (omega arith) in
+    ap (λ l. ones (number-of (2 ^ 64) 0 l / 256)) (spread ws size) ∙ ones-of-words (getD ws 0 0) (getD ws 1 0) (getD ws 2 0) (getD ws 3 0) (omega arith) (omega arith) (omega arith) in
     omega (arith, all, c .from .ensures, few (getD ws 0 0) (omega arith), few (getD ws 1 0) (omega arith), few (getD ws 2 0) (omega arith), fewer (getD ws 3 0) (omega arith))

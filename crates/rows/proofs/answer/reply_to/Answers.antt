@@ -15,7 +15,7 @@ returns-in-Intact c =
     let size : length (c .line .result) ≡ 76 = search needs in
     record {
       text =
-        take-all 76 (c .line .result) (omega arith) ∙ c .line .ensures ∙ ap verdict-text (c .in-Intact .ensures tt)
-        ∙ ap (λ o. when-some o (ended (codes "not a row")) (λ row. verdict-text (judged row))) (c .in-Some .ensures tt);
+          take-all 76 (c .line .result) (omega arith) ∙ c .line .ensures ∙ ap verdict-text (c .in-Intact .ensures tt)
+          ∙ ap (λ o. when-some o (ended (codes "not a row")) (λ row. verdict-text (judged row))) (c .in-Some .ensures tt);
       len = omega arith;
     }

@@ -43,7 +43,7 @@ returns-else-width-self c =
     let left : ℕ = 64 - more in
     let word : ℕ = getD (self .words) (self .next) 0 in
     let whole : self .held * 2 ^ more + word / 2 ^ left < 2 ^ (self .bits + more) =
-          beside-fits (self .held) (word / 2 ^ left) (self .bits) more (c .pre .steady .held) (within-fits word 64 more left (omega arith) (omega arith)) in
+    beside-fits (self .held) (word / 2 ^ left) (self .bits) more (c .pre .steady .held) (within-fits word 64 more left (omega arith) (omega arith)) in
     let wide : self .bits + more ≡ width-of (c .args .field) = omega arith in
     record {
       steady = record {

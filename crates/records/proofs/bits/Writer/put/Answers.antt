@@ -47,8 +47,8 @@ returns-then-bits-lt64 c =
         words = c .pre .sound .words;
       };
       value =
-        ap (λ n. p * 2 ^ (self .bits + width) + n) (c .beside-self .ensures) ∙ put-within p (self .held) (self .bits) width (c .args .value)
-        ∙ ap (λ n. (p * 2 ^ self .bits + self .held) * 2 ^ n + c .args .value) (c .width-width .ensures .width);
+          ap (λ n. p * 2 ^ (self .bits + width) + n) (c .beside-self .ensures) ∙ put-within p (self .held) (self .bits) width (c .args .value)
+          ∙ ap (λ n. (p * 2 ^ self .bits + self .held) * 2 ^ n + c .args .value) (c .width-width .ensures .width);
       count = omega arith;
     }
 
@@ -71,10 +71,10 @@ returns-else-bits-lt64 c =
         words = all-set (λ w. w < 2 ^ 64) (self .words) (self .next) word (omega arith) (c .pre .sound .words);
       };
       value =
-        ap (λ n. n * 2 ^ over + c .low-bits-self .result) (word-more (self .words) (self .next) word inside)
-        ∙ ap (λ n. (p * 2 ^ 64 + n) * 2 ^ over + c .low-bits-self .result) (c .beside .ensures)
-        ∙ ap (λ n. (p * 2 ^ 64 + (self .held * 2 ^ front + c .args .value / 2 ^ over)) * 2 ^ over + n) (c .low-bits-self .ensures)
-        ∙ put-across p (self .held) (self .bits) front over (c .args .value) (omega arith)
-        ∙ ap (λ n. (p * 2 ^ self .bits + self .held) * 2 ^ n + c .args .value) sum;
+          ap (λ n. n * 2 ^ over + c .low-bits-self .result) (word-more (self .words) (self .next) word inside)
+          ∙ ap (λ n. (p * 2 ^ 64 + n) * 2 ^ over + c .low-bits-self .result) (c .beside .ensures)
+          ∙ ap (λ n. (p * 2 ^ 64 + (self .held * 2 ^ front + c .args .value / 2 ^ over)) * 2 ^ over + n) (c .low-bits-self .ensures)
+          ∙ put-across p (self .held) (self .bits) front over (c .args .value) (omega arith)
+          ∙ ap (λ n. (p * 2 ^ self .bits + self .held) * 2 ^ n + c .args .value) sum;
       count = omega arith;
     }

@@ -77,5 +77,5 @@ returns c =
     record {
       body = before-check n p13 (bits-unread r13) (unread r13) count s13 small;
       fit =
-        (c .take .ensures .fits, (c .take-2 .ensures .fits, (c .take-3 .ensures .fits, (c .take-4 .ensures .fits, (c .take-5 .ensures .fits, (c .take-6 .ensures .fits, (c .take-7 .ensures .fits, (c .take-8 .ensures .fits, (c .take-9 .ensures .fits, (c .take-10 .ensures .fits, (c .take-11 .ensures .fits, (c .take-12 .ensures .fits, (c .take-13 .ensures .fits, tt)))))))))))));
+          (c .take .ensures .fits, (c .take-2 .ensures .fits, (c .take-3 .ensures .fits, (c .take-4 .ensures .fits, (c .take-5 .ensures .fits, (c .take-6 .ensures .fits, (c .take-7 .ensures .fits, (c .take-8 .ensures .fits, (c .take-9 .ensures .fits, (c .take-10 .ensures .fits, (c .take-11 .ensures .fits, (c .take-12 .ensures .fits, (c .take-13 .ensures .fits, tt)))))))))))));
     }

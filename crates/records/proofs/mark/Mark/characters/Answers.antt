@@ -20,8 +20,8 @@ loop-i-again c =
     let codes = c .args .self .codes in
     let size = codes-known codes (c .args .self .known) .0 in (
       take-more-set (c .loop-i .text) i (c .character-of .result) (omega (arith, c .loop-i .inv .1))
-      ∙ ap (λ xs. xs ++ (c .character-of .result ∷ [])) (c .loop-i .inv .0) ∙ ap (λ x. map character-of (take i codes) ++ (x ∷ [])) (c .character-of .ensures)
-      ∙ sym (map-more character-of codes i 0 (omega (arith, size))),
+          ∙ ap (λ xs. xs ++ (c .character-of .result ∷ [])) (c .loop-i .inv .0) ∙ ap (λ x. map character-of (take i codes) ++ (x ∷ [])) (c .character-of .ensures)
+          ∙ sym (map-more character-of codes i 0 (omega (arith, size))),
       length-set (c .loop-i .text) i (c .character-of .result) ∙ c .loop-i .inv .1,
     )
 

@@ -16,7 +16,7 @@ loop-i-again c =
     let j : ℕ = c .loop-i .i - 1 in
     let rest : ℕ = c .loop-i .rest in (
       c .loop-i .inv .0 ∙ digits-step 64 (c .loop-i .i) j rest (c .loop-i .codes) (omega arith) (omega arith)
-      ∙ ap (λ d. digits-of 64 j (rest / 64) ++ drop j (set (c .loop-i .codes) j d)) (sym (c .low-bits .ensures)),
+          ∙ ap (λ d. digits-of 64 j (rest / 64) ++ drop j (set (c .loop-i .codes) j d)) (sym (c .low-bits .ensures)),
       length-set (c .loop-i .codes) j _ ∙ c .loop-i .inv .1,
     )
 

@@ -35,7 +35,7 @@ returns c =
     let size : length ws ≡ 4 = search needs in
     let ok : lawful r ≡ true = sym (c .is-lawful .ensures) ∙ c .if-not-is-lawful .left in
     let body : number-of (2 ^ 64) 0 (getD ws 0 0 ∷ getD ws 1 0 ∷ getD ws 2 0 ∷ getD ws 3 0 ∷ []) ≡ side-by-side 0 (fields r) * 256 =
-          ap (number-of (2 ^ 64) 0) (sym (spread ws size)) ∙ c .words .ensures ∙ ap (λ fs. side-by-side 0 fs * 256) (c .of .ensures) in
+    ap (number-of (2 ^ 64) 0) (sym (spread ws size)) ∙ c .words .ensures ∙ ap (λ fs. side-by-side 0 fs * 256) (c .of .ensures) in
     let row : c .row-of .result ≡ packing r =
-          c .row-of .ensures ∙ packed-row r ok (getD ws 0 0) (getD ws 1 0) (getD ws 2 0) (getD ws 3 0) (c .zero-bits-check .result) body (c .zero-bits-check .ensures) in
+    c .row-of .ensures ∙ packed-row r ok (getD ws 0 0) (getD ws 1 0) (getD ws 2 0) (getD ws 3 0) (c .zero-bits-check .result) body (c .zero-bits-check .ensures) in
     ap some row ∙ sym (ap (λ b. cond b (some (packing r)) none) ok)
