@@ -24,6 +24,7 @@ pub mod Places
 pub mod Changes
 pub mod Erasing
 pub mod MemoryLaws
+pub mod MediaLaws
 -- lists of calls and cuts: what the indicator shows, and what the memory holds
 pub mod Histories
 pub mod Windows

@@ -8,6 +8,7 @@ pub mod Records
 pub mod Rows
 pub mod Tickets
 pub mod Memory
+pub mod Media
 pub mod Terminal
 pub mod Cuts
 pub mod History

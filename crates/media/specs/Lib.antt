@@ -1,0 +1,2 @@
+-- What the answers of a medium mean in the rules
+pub mod Outcomes
