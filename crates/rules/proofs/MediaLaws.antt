@@ -69,9 +69,9 @@ module _ (bytes new : List ℕ) (r k : ℕ) (inside : r < length bytes / 32) (si
   row-after i d hi = ⊎-elim
       (λ (q : i ≡ r). rw q (put-same bytes new r k (omega arith) size ∙ sym (getD-set-same (rows-in bytes) r new d (omega (arith, rows-length bytes)))))
       (λ (ne : i ≡ r → ⊥). ⊎-elim
-        (λ (l : i < r). put-below bytes new (r * 32) k i (omega arith) (omega arith) ∙ kept ne)
-        (λ (g : r ≤ i). put-above bytes new (r * 32) k i (let z : r < i = omega arith in omega arith) (omega arith) (size ∙ sym wide) ∙ kept ne)
-        (below-or i r))
+      (λ (l : i < r). put-below bytes new (r * 32) k i (omega arith) (omega arith) ∙ kept ne)
+      (λ (g : r ≤ i). put-above bytes new (r * 32) k i (let z : r < i = omega arith in omega arith) (omega arith) (size ∙ sym wide) ∙ kept ne)
+      (below-or i r))
       (cases-eq i r)
     where
       kept : (i ≡ r → ⊥) → row-in bytes i ≡ getD (set (rows-in bytes) r new) i d
@@ -84,8 +84,8 @@ rows-put bytes new r k inside size wide same =
     let n : ℕ = length bytes / 32 in
     let long : length (rows-in (putMid (r * 32) k bytes new)) ≡ n = rows-length (putMid (r * 32) k bytes new) ∙ ap (λ m. m / 32) same in
     same-lists _ _ (long ∙ sym (length-set (rows-in bytes) r new ∙ rows-length bytes)) (λ i d h.
-      let hi : i < n = omega arith in
-      row-is (putMid (r * 32) k bytes new) i d (omega (arith, ap (λ m. m / 32) same)) ∙ row-after bytes new r k inside size wide i d hi)
+    let hi : i < n = omega arith in
+    row-is (putMid (r * 32) k bytes new) i d (omega (arith, ap (λ m. m / 32) same)) ∙ row-after bytes new r k inside size wide i d hi)
 
 -- ---- A page is filled with ones
 
@@ -93,9 +93,9 @@ rows-put bytes new r k inside size wide same =
 ones-in : (bytes : List ℕ) (y w a n k j e : ℕ) → e ≡ a + j → j + w ≤ n → a ≤ length bytes → take w (drop e (putMid a k bytes (replicate n y))) ≡ replicate w y
 ones-in bytes y w a n k j e at hi h =
     ap (λ z. take w (drop z (putMid a k bytes (replicate n y)))) at ∙ ap (take w) (sym (drop-drop j a (putMid a k bytes (replicate n y)))
-      ∙ ap (drop j) (drop-at (take a bytes) _ a (length-take-le _ _ h))
-      ∙ drop-append-le j (replicate n y) _ (omega (arith, length-replicate n y))
-      ∙ ap (λ z. z ++ postOf a k bytes) (drop-replicate j n y))
+    ∙ ap (drop j) (drop-at (take a bytes) _ a (length-take-le _ _ h))
+    ∙ drop-append-le j (replicate n y) _ (omega (arith, length-replicate n y))
+    ∙ ap (λ z. z ++ postOf a k bytes) (drop-replicate j n y))
     ∙ take-append-le w (replicate (n - j) y) _ (omega (arith, length-replicate (n - j) y)) ∙ take-replicate w (n - j) y (omega arith)
 
 put-ones : (bytes : List ℕ) (a n k i : ℕ) → a ≤ i * 32 → i * 32 + 32 ≤ a + n → a ≤ length bytes → row-in (putMid a k bytes (replicate n 255)) i ≡ blank-row
@@ -112,20 +112,20 @@ rows-erase bytes p k m me ke inside same =
     let size : length new ≡ k = length-replicate m 255 ∙ me ∙ sym ke in
     let long : length (rows-in after) ≡ n = rows-length after ∙ ap (λ l. l / 32) same in
     ext-getD [] (rows-in after) (erased (rows-in bytes) (p ∷ [])) (long ∙ sym (erased-length (rows-in bytes) (p ∷ []) ∙ rows-length bytes)) (λ i h.
-      let hi : i < n = omega arith in
-      let hr : i < length (rows-in bytes) = omega (arith, rows-length bytes) in
-      row-is after i [] (omega (arith, ap (λ l. l / 32) same)) ∙ ⊎-elim
-        (λ listed.
-          let q : i / 16 ≡ p = ⊎-elim (λ e. e) (λ none. absurd none) (listed .0) in
-          put-ones bytes (p * 512) m k i (omega arith) (omega arith) (omega arith) ∙ sym (listed .1))
-        (λ other.
-          let ne : i / 16 ≡ p → ⊥ = λ q. other .0 (inl q) in
-          let was : row-in bytes i ≡ row-at (erased (rows-in bytes) (p ∷ [])) i = sym (other .1 ∙ row-is bytes i [] hi) in
-          ⊎-elim
-            (λ (l : i < p * 16). put-below bytes new (p * 512) k i (omega arith) (omega arith) ∙ was)
-            (λ (g : p * 16 ≤ i). put-above bytes new (p * 512) k i (let z : (i < p * 16 + 16) → ⊥ = λ lt. ne (omega arith) in omega arith) (omega arith) size ∙ was)
-            (below-or i (p * 16)))
-        (erased-row (rows-in bytes) (p ∷ []) i hr))
+    let hi : i < n = omega arith in
+    let hr : i < length (rows-in bytes) = omega (arith, rows-length bytes) in
+    row-is after i [] (omega (arith, ap (λ l. l / 32) same)) ∙ ⊎-elim
+    (λ listed.
+    let q : i / 16 ≡ p = ⊎-elim (λ e. e) (λ none. absurd none) (listed .0) in
+    put-ones bytes (p * 512) m k i (omega arith) (omega arith) (omega arith) ∙ sym (listed .1))
+    (λ other.
+    let ne : i / 16 ≡ p → ⊥ = λ q. other .0 (inl q) in
+    let was : row-in bytes i ≡ row-at (erased (rows-in bytes) (p ∷ [])) i = sym (other .1 ∙ row-is bytes i [] hi) in
+    ⊎-elim
+    (λ (l : i < p * 16). put-below bytes new (p * 512) k i (omega arith) (omega arith) ∙ was)
+    (λ (g : p * 16 ≤ i). put-above bytes new (p * 512) k i (let z : (i < p * 16 + 16) → ⊥ = λ lt. ne (omega arith) in omega arith) (omega arith) size ∙ was)
+    (below-or i (p * 16)))
+    (erased-row (rows-in bytes) (p ∷ []) i hr))
 
 -- ---- The shape of a medium
 
@@ -172,12 +172,12 @@ pub clear-more : (bytes was new : List ℕ) (r i v : ℕ) → r < length bytes /
 unfolding blank-row
 clear-more bytes was new r i v h read ones hi ln hv e =
     let here : getD (paste bytes (r * 32) new i) (r * 32 + i) 0 ≡ getD bytes (r * 32 + i) 0 =
-          getD-at-drop (paste bytes (r * 32) new i) (r * 32 + i) 0
-          ∙ ap (λ z. getD z 0 0) (drop-paste bytes (r * 32) new i (omega arith) (omega arith))
-          ∙ sym (getD-at-drop bytes (r * 32 + i) 0) in
+    getD-at-drop (paste bytes (r * 32) new i) (r * 32 + i) 0
+    ∙ ap (λ z. getD z 0 0) (drop-paste bytes (r * 32) new i (omega arith) (omega arith))
+    ∙ sym (getD-at-drop bytes (r * 32 + i) 0) in
     let one : getD bytes (r * 32 + i) 0 ≡ 255 =
-          sym (getD-take 32 (drop (r * 32) bytes) i 0 hi ∙ getD-drop (r * 32) bytes i 0)
-          ∙ ap (λ z. getD z i 0) (sym read ∙ ones) ∙ getD-replicate 32 i 255 0 hi in
+    sym (getD-take 32 (drop (r * 32) bytes) i 0 hi ∙ getD-drop (r * 32) bytes i 0)
+    ∙ ap (λ z. getD z i 0) (sym read ∙ ones) ∙ getD-replicate 32 i 255 0 hi in
     ap (λ z. set (paste bytes (r * 32) new i) (r * 32 + i) z) (ap (λ z. bitAnd z v) (here ∙ one) ∙ ones-and v hv ∙ sym e)
     ∙ paste-more bytes (r * 32) new i 0 (omega arith) (omega arith)
 
@@ -191,9 +191,9 @@ pub sector-done : (bytes after page part new : List ℕ) (r k : ℕ) → r < len
     → after ≡ paste bytes (r / 16 * 512) (putMid (r % 16 * 32) k page part) 512 → after ≡ paste bytes (r * 32) new 32
 sector-done bytes after page part new r k h whole ke ln is same e =
     e ∙ ap (λ z. paste bytes (r / 16 * 512) z 512) (putMid-paste (r % 16 * 32) k page part new 32 same (sym ke) (sym ln)
-        ∙ ap (λ z. paste z (r % 16 * 32) new 32) is)
-      ∙ paste-inside bytes new (r / 16 * 512) 512 (r % 16 * 32) 32 (omega arith) (omega arith) ln
-      ∙ ap (λ z. paste bytes z new 32) (omega arith)
+    ∙ ap (λ z. paste z (r % 16 * 32) new 32) is)
+    ∙ paste-inside bytes new (r / 16 * 512) 512 (r % 16 * 32) 32 (omega arith) (omega arith) ln
+    ∙ ap (λ z. paste bytes z new 32) (omega arith)
 
 -- ---- What the calls say, over the bytes
 

@@ -24,7 +24,7 @@ returns c =
     let left = erase-done bytes (c .loop-i .self .cells .now) (c .args .page) (c .loop-i .i) (c .args .self .now .whole) (c .if-page-self .left) (c .loop-i-test .left) (c .loop-i .kept .i-end) (c .loop-i .inv .0) in
     record {
       says =
-        erases-inside bytes (c .args .self .now .writes) (c .args .page) (c .args .self .now .whole) (rows-in (c .loop-i .self .cells .now)) (c .if-page-self .left) left
-        ∙ ap (λ n. (accepted, rows-in (c .loop-i .self .cells .now), one-more n)) (sym (c .loop-i .inv .1));
+          erases-inside bytes (c .args .self .now .writes) (c .args .page) (c .args .self .now .whole) (rows-in (c .loop-i .self .cells .now)) (c .if-page-self .left) left
+          ∙ ap (λ n. (accepted, rows-in (c .loop-i .self .cells .now), one-more n)) (sym (c .loop-i .inv .1));
       lender = c .loop-i .inv .2;
     }

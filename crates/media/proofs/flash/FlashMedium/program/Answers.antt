@@ -39,7 +39,7 @@ loop-i-again c =
     let h = within bytes _ _ (c .args .row) (c .in-Continue-read .ensures tt) in
     let was : c .read .last .out ≡ blank-row = is-blank-row (c .read .last .out) (sym (c .is-blank .ensures) ∙ c .if-not-is-blank .left) in
     let turn = clear-more bytes (c .read .last .out) (c .args .bytes .now) (c .args .row) (c .loop-i .i) _ (h .0) (h .1 ∙ row-is bytes (c .args .row) _ (h .0)) was (c .loop-i-test .taken) (c .told-bytes)
-          (c .fits-bytes (c .loop-i .i)) refl in
+    (c .fits-bytes (c .loop-i .i)) refl in
     (simp (c .loop-i .inv .0) turn, c .loop-i .inv .1, c .loop-i .inv .2)
 
 pub returns : need.returns
@@ -50,7 +50,7 @@ returns c =
     let left = program-done bytes (c .loop-i .self .cells .now) (c .args .bytes .now) (c .args .row) (c .loop-i .i) (h .0) (c .told-bytes) (c .loop-i-test .left) (c .loop-i .kept .i-end) (c .loop-i .inv .0) in
     record {
       says =
-        programs-blank (rows-in bytes) (c .args .self .now .writes) (c .args .row) (c .args .bytes .now) (rows-in (c .loop-i .self .cells .now)) (omega (arith, h .0, rows-length bytes)) ones left
-        ∙ ap (λ n. (accepted, rows-in (c .loop-i .self .cells .now), one-more n)) (sym (c .loop-i .inv .1));
+          programs-blank (rows-in bytes) (c .args .self .now .writes) (c .args .row) (c .args .bytes .now) (rows-in (c .loop-i .self .cells .now)) (omega (arith, h .0, rows-length bytes)) ones left
+          ∙ ap (λ n. (accepted, rows-in (c .loop-i .self .cells .now), one-more n)) (sym (c .loop-i .inv .1));
       lender = c .loop-i .inv .2;
     }

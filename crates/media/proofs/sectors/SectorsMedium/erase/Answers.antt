@@ -15,7 +15,7 @@ returns c =
     let left = erase-done bytes after (c .args .page) 512 (c .args .self .now .whole) (c .if-page-self .left) (omega arith) (omega arith) (c .rewrite .ensures .cells) in
     record {
       says =
-        erases-inside bytes (c .args .self .now .writes) (c .args .page) (c .args .self .now .whole) (rows-in after) (c .if-page-self .left) left
-        ∙ ap (λ n. (accepted, rows-in after, n)) (sym (c .rewrite .ensures .writes));
+          erases-inside bytes (c .args .self .now .writes) (c .args .page) (c .args .self .now .whole) (rows-in after) (c .if-page-self .left) left
+          ∙ ap (λ n. (accepted, rows-in after, n)) (sym (c .rewrite .ensures .writes));
       lender = c .rewrite .ensures .lent;
     }

@@ -23,11 +23,11 @@ returns c =
     let h = within bytes _ _ (c .args .row) (c .in-Continue-read .ensures tt) in
     let ones : is-blank (row-at (rows-in bytes) (c .args .row)) ≡ true = ap is-blank (sym (h .1)) ∙ sym (c .is-blank .ensures) ∙ c .if-not-is-blank .left in
     let whole = sector-done bytes after (c .page-sector .result) (c .copy-from-slice .last .self) (c .args .bytes .now) (c .args .row) _ (h .0) (c .args .self .now .whole) (omega arith) (c .told-bytes)
-          (c .page-sector .ensures) (c .copy-from-slice .ensures .after) (c .rewrite .ensures .cells) in
+    (c .page-sector .ensures) (c .copy-from-slice .ensures .after) (c .rewrite .ensures .cells) in
     let left = program-done bytes after (c .args .bytes .now) (c .args .row) 32 (h .0) (c .told-bytes) (omega arith) (omega arith) whole in
     record {
       says =
-        programs-blank (rows-in bytes) (c .args .self .now .writes) (c .args .row) (c .args .bytes .now) (rows-in after) (omega (arith, h .0, rows-length bytes)) ones left
-        ∙ ap (λ n. (accepted, rows-in after, n)) (sym (c .rewrite .ensures .writes));
+          programs-blank (rows-in bytes) (c .args .self .now .writes) (c .args .row) (c .args .bytes .now) (rows-in after) (omega (arith, h .0, rows-length bytes)) ones left
+          ∙ ap (λ n. (accepted, rows-in after, n)) (sym (c .rewrite .ensures .writes));
       lender = c .rewrite .ensures .lent;
     }
