@@ -1,0 +1,30 @@
+-- The rows of a memory as they come along its round, and what is told of them
+use mathlib.Core.Bool.{Bool, true, cond, not, _&&_}
+use mathlib.Core.List.{List}
+use mathlib.Core.Option.{Option, none, some}
+use Prim.Native.Nat.{ℕ, _+_, _-_}
+use lib.Dec.{ltb, eqb}
+use Rattle.rules.specs.Lists.{when-some}
+use Rattle.rules.specs.Records.{Record, earlier}
+use Rattle.rules.specs.Memory.{disorder-among, disorder-after}
+use Rattle.rules.specs.Media.{Outcome, accepted, refused}
+
+-- the row after k others in a round of so many rows that starts with the first
+abbrev pub row-along : (first count k : ℕ) → ℕ
+row-along first count k = cond (ltb (first + k) count) (first + k) (first + k - count)
+
+-- the record, if it has that number
+abbrev pub if-numbered : (number : ℕ) → Option (ℕ × Record) → Option Record
+if-numbered number o = when-some o none (λ x. cond (eqb (x .1 .number) number) (some (x .1)) none)
+
+-- a record may come after the last one, if there is one: its number is larger, and its stamp not earlier
+abbrev pub may-follow : (last : Option Record) → Record → Bool
+may-follow last r = when-some last true (λ q. ltb (q .number) (r .number) && not (earlier r q))
+
+-- of the records that come after the last one, if there is one, the row of the first that breaks the order
+abbrev pub disorder-from : (last : Option Record) → List (ℕ × Record) → Option ℕ
+disorder-from last xs = when-some last (disorder-among xs) (λ r. disorder-after r xs)
+
+-- one more row: the last record then, or the row's refusal
+abbrev pub order-step : (last : Option Record) (next : Option (ℕ × Record)) → Outcome × Option Record
+order-step last next = when-some next (accepted, last) (λ x. cond (may-follow last (x .1)) (accepted, some (x .1)) (refused 21 (x .0), none))

@@ -1,0 +1,15 @@
+//! The alibi memory over any medium: where a record goes, where it is found again, and what a release erases.
+
+mod entry;
+mod fault;
+mod finding;
+mod order;
+mod reading;
+mod round;
+
+pub use entry::Entry;
+pub use fault::MemoryFault;
+pub use finding::find;
+pub use finding::next_number;
+pub use order::check_order;
+pub use reading::newest;
