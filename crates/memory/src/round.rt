@@ -23,9 +23,5 @@ pub(crate) fn row_along(first: usize, count: usize, k: usize) -> usize
     ensures { λ r. ⌜ r ≡ row-along first count k ⌝ }
 {
     let row = first + k;
-    if row < count {
-        row
-    } else {
-        row - count
-    }
+    if row < count { row } else { row - count }
 }

@@ -17,7 +17,7 @@ loop-row-again g c =
     let inside : i < length rows = omega (arith, c .size-row-end .ensures) in
     c .loop-row .inv
     ∙ newest-more rows i (told entry-of (c .loop-row .best)) (told entry-of (c .better-best .result)) inside
-        (c .better-best .ensures ∙ ap (better-of (told entry-of (c .loop-row .best))) (c .entry-at .ensures))
+    (c .better-best .ensures ∙ ap (better-of (told entry-of (c .loop-row .best))) (c .entry-at .ensures))
 
 pub returns : need.returns
 returns g c =
