@@ -1,7 +1,7 @@
 ghost use mathlib.Core.Path.{_≡_};
 ghost use mathlib.Core.Bool.{cond};
 ghost use lib.ListN.{length};
-ghost use Rattle.rules.specs.Media.{accepted, refused, is-medium-size, rows-in, reads};
+ghost use Rattle.rules.specs.Media.{accepted, refused, is-medium-size, rows-in, reads, one-more};
 ghost use Rattle.rules.specs.Rows.{is-blank as blank-by-rule};
 ghost use Rattle.media.specs.Outcomes.{outcome};
 use crate::medium::MediumFault;
@@ -40,4 +40,11 @@ pub(crate) fn is_blank(row: &[u8; 32]) -> bool
         }
     }
     true
+}
+
+/// The count after one more write, modulo 2^32.
+pub(crate) fn count_write(writes: u32) -> u32
+    ensures { λ r. ⌜ r ≡ one-more writes ⌝ }
+{
+    writes.wrapping_add(1)
 }

@@ -5,6 +5,7 @@ ghost use denote.Ref.{now, name};
 ghost use lib.ListN.{length};
 ghost use Rattle.rules.specs.Media.{is-medium-size, rows-in};
 ghost use Rattle.rules.proofs.MediaLaws.{shaped};
+use crate::bytes::count_write;
 use crate::bytes::is_blank;
 use crate::bytes::read_row;
 use crate::medium::Medium;
@@ -75,7 +76,7 @@ pub impl<'a> Medium for Flash<'a> as FlashMedium {
         for i in 0..32 {
             self.cells[start + i] &= bytes[i];
         }
-        self.writes = self.writes.wrapping_add(1);
+        self.writes = count_write(self.writes);
         Ok(())
     }
 
@@ -87,7 +88,7 @@ pub impl<'a> Medium for Flash<'a> as FlashMedium {
         for i in 0..512 {
             self.cells[start + i] = 0xFF;
         }
-        self.writes = self.writes.wrapping_add(1);
+        self.writes = count_write(self.writes);
         Ok(())
     }
 }

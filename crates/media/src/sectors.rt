@@ -6,6 +6,7 @@ ghost use lib.ListN.{length, take, drop};
 ghost use lib.Seq.{paste};
 ghost use Rattle.rules.specs.Media.{is-medium-size, rows-in, one-more};
 ghost use Rattle.rules.proofs.MediaLaws.{shaped};
+use crate::bytes::count_write;
 use crate::bytes::is_blank;
 use crate::bytes::read_row;
 use crate::medium::Medium;
@@ -69,7 +70,7 @@ impl Sectors<'_> {
         for i in 0..512 {
             self.cells[start + i] = sector[i];
         }
-        self.writes = self.writes.wrapping_add(1);
+        self.writes = count_write(self.writes);
     }
 }
 

@@ -25,6 +25,6 @@ returns c =
     record {
       says =
           erases-inside bytes (c .args .self .now .writes) (c .args .page) (c .args .self .now .whole) (rows-in (c .loop-i .self .cells .now)) (c .if-page-self .left) left
-          ∙ ap (λ n. (accepted, rows-in (c .loop-i .self .cells .now), one-more n)) (sym (c .loop-i .inv .1));
+          ∙ ap (λ n. (accepted, rows-in (c .loop-i .self .cells .now), n)) (ap one-more (sym (c .loop-i .inv .1)) ∙ sym (c .count-write-self .ensures));
       lender = c .loop-i .inv .2;
     }

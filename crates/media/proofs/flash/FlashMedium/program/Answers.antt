@@ -51,6 +51,6 @@ returns c =
     record {
       says =
           programs-blank (rows-in bytes) (c .args .self .now .writes) (c .args .row) (c .args .bytes .now) (rows-in (c .loop-i .self .cells .now)) (omega (arith, h .0, rows-length bytes)) ones left
-          ∙ ap (λ n. (accepted, rows-in (c .loop-i .self .cells .now), one-more n)) (sym (c .loop-i .inv .1));
+          ∙ ap (λ n. (accepted, rows-in (c .loop-i .self .cells .now), n)) (ap one-more (sym (c .loop-i .inv .1)) ∙ sym (c .count-write-self .ensures));
       lender = c .loop-i .inv .2;
     }

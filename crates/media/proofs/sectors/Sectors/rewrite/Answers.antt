@@ -21,6 +21,6 @@ returns c =
     let q : c .loop-i .i ≡ 512 = omega arith in
     record {
       cells = c .loop-i .inv .0 ∙ ap (paste (c .args .self .now .cells .now) (c .args .page * 512) (c .args .sector .now)) q;
-      writes = ap one-more (c .loop-i .inv .1);
+      writes = c .count-write-self .ensures ∙ ap one-more (c .loop-i .inv .1);
       lent = c .loop-i .inv .2;
     }
