@@ -15,15 +15,26 @@ use Rattle.rules.specs.Memory.{Rows, row-at, intact-in, largest, newest}
 use Rattle.memory.specs.Entries.{entry-in, better-of}
 
 -- a count with one number less
+pub from-next : (a n m : ℕ) → n ≡ suc m → from a n ≡ a ∷ from (a + 1) m
+from-next a zero m e = absurd (omega arith)
+from-next a (suc n) m e = let same : n ≡ m = omega arith in let next : suc a ≡ a + 1 = omega arith in ap (λ k. a ∷ from (suc a) k) same ∙ ap (λ k. a ∷ from k m) next
+
 pub from-more : (i n : ℕ) → i < n → from i (n - i) ≡ i ∷ from (i + 1) (n - (i + 1))
-from-more i n inside = go (n - i) (n - (i + 1)) (omega arith)
-  where
-    go : (a b : ℕ) → a ≡ suc b → from i a ≡ i ∷ from (i + 1) b
-    go zero b e = absurd (omega arith)
-    go (suc a) b e = let same : a ≡ b = omega arith in let next : suc i ≡ i + 1 = omega arith in ap (λ k. i ∷ from (suc i) k) same ∙ ap (λ k. i ∷ from k b) next
+from-more i n inside = from-next i (n - i) (n - (i + 1)) (omega arith)
 
 pub from-none : (i n : ℕ) → n ≤ i → from i (n - i) ≡ []
 from-none i n past = let none-left : n - i ≡ 0 = omega arith in ap (from i) none-left
+
+-- the record of a row, if it has one, and those of the other rows
+pub intact-next : (rows : Rows) (i : ℕ) (is : List ℕ) → intact-in rows (i ∷ is) ≡ when-some (entry-in rows i) (intact-in rows is) (λ x. x ∷ intact-in rows is)
+unfolding intact-in
+intact-next rows i is = by (read-row (row-at rows i))
+  where
+    by : (o : Option Record)
+        → when-some o (intact-in rows is) (λ r. (i, r) ∷ intact-in rows is)
+        ≡ when-some (when-some o none (λ r. some (i, r))) (intact-in rows is) (λ x. x ∷ intact-in rows is)
+    by none = refl
+    by (some r) = refl
 
 -- ---- The largest
 
@@ -51,13 +62,11 @@ largest-more x xs = by (largest xs)
 
 -- the largest of the records in these rows, the first row by itself
 scan-more : (rows : Rows) (i : ℕ) (is : List ℕ) → largest (intact-in rows (i ∷ is)) ≡ better-of (entry-in rows i) (largest (intact-in rows is))
-unfolding intact-in
-scan-more rows i is = by (read-row (row-at rows i))
+scan-more rows i is = ap largest (intact-next rows i is) ∙ by (entry-in rows i)
   where
-    by : (o : Option Record)
-        → largest (when-some o (intact-in rows is) (λ r. (i, r) ∷ intact-in rows is)) ≡ better-of (when-some o none (λ r. some (i, r))) (largest (intact-in rows is))
+    by : (o : Option (ℕ × Record)) → largest (when-some o (intact-in rows is) (λ x. x ∷ intact-in rows is)) ≡ better-of o (largest (intact-in rows is))
     by none = refl
-    by (some r) = largest-more (i, r) (intact-in rows is)
+    by (some x) = largest-more x (intact-in rows is)
 
 module _ (rows : Rows) where
   abbrev pub rest : ℕ → Option (ℕ × Record)

@@ -18,7 +18,7 @@ use Rattle.rules.proofs.Rounds.{turn}
 use Rattle.rules.proofs.Memories.{start, start-fits, round-rows}
 use Rattle.memory.specs.Entries.{entry-in}
 use Rattle.memory.specs.Rounds.{row-along, if-numbered, may-follow, disorder-from, order-step}
-use Rattle.memory.proofs.Scans.{from-more, from-none}
+use Rattle.memory.proofs.Scans.{from-more, from-none, intact-next}
 
 module _ (first count : ℕ) where
   -- the rows that come after k others
@@ -62,15 +62,9 @@ module _ (rows : Rows) (first : ℕ) where
   pub records-more :
       (k i : ℕ) → k < length rows → i ≡ row-along first (length rows) k
       → records-left k ≡ when-some (entry-in rows i) (records-left (k + 1)) (λ x. x ∷ records-left (k + 1))
-  unfolding intact-in
   records-more k i inside here =
-      ap (intact-in rows) (left-more first (length rows) k inside ∙ ap (λ j. j ∷ left first (length rows) (k + 1)) (sym here)) ∙ by (read-row (row-at rows i))
-    where
-      by : (o : Option Record)
-          → when-some o (records-left (k + 1)) (λ r. (i, r) ∷ records-left (k + 1))
-          ≡ when-some (when-some o none (λ r. some (i, r))) (records-left (k + 1)) (λ x. x ∷ records-left (k + 1))
-      by none = refl
-      by (some r) = refl
+      ap (intact-in rows) (left-more first (length rows) k inside ∙ ap (λ j. j ∷ left first (length rows) (k + 1)) (sym here))
+      ∙ intact-next rows i (left first (length rows) (k + 1))
 
   pub records-none : (k : ℕ) → length rows ≤ k → records-left k ≡ []
   unfolding intact-in

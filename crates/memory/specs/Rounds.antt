@@ -4,9 +4,9 @@ use mathlib.Core.List.{List}
 use mathlib.Core.Option.{Option, none, some}
 use Prim.Native.Nat.{ℕ, _+_, _-_}
 use lib.Dec.{ltb, eqb}
-use Rattle.rules.specs.Lists.{when-some}
+use Rattle.rules.specs.Lists.{when-some, or-else}
 use Rattle.rules.specs.Records.{Record, earlier}
-use Rattle.rules.specs.Memory.{disorder-among, disorder-after}
+use Rattle.rules.specs.Memory.{Rows, pages, disorder-among, disorder-after, free-in, holds-record}
 use Rattle.rules.specs.Media.{Outcome, accepted, refused}
 
 -- the row after k others in a round of so many rows that starts with the first
@@ -28,3 +28,15 @@ disorder-from last xs = when-some last (disorder-among xs) (λ r. disorder-after
 -- one more row: the last record then, or the row's refusal
 abbrev pub order-step : (last : Option Record) (next : Option (ℕ × Record)) → Outcome × Option Record
 order-step last next = when-some next (accepted, last) (λ x. cond (may-follow last (x .1)) (accepted, some (x .1)) (refused 21 (x .0), none))
+
+-- the page after this one, the first after the last
+abbrev pub page-after : (page count : ℕ) → ℕ
+page-after page count = cond (ltb (page + 1) count) (page + 1) 0
+
+-- the free row of a page, provided that it holds no record
+abbrev pub free-in-empty : Rows → (page : ℕ) → Option ℕ
+free-in-empty rows page = cond (holds-record rows page) none (free-in rows page)
+
+-- the free row of the newest record's page, else that of the page after it
+abbrev pub next-after : Rows → (page : ℕ) → Option ℕ
+next-after rows page = or-else (free-in rows page) (free-in-empty rows (page-after page (pages rows)))

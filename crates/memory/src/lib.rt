@@ -3,7 +3,9 @@
 mod entry;
 mod fault;
 mod finding;
+mod next;
 mod order;
+mod page;
 mod reading;
 mod round;
 
@@ -11,5 +13,6 @@ pub use entry::Entry;
 pub use fault::MemoryFault;
 pub use finding::find;
 pub use finding::next_number;
+pub use next::next_row;
 pub use order::check_order;
 pub use reading::newest;
