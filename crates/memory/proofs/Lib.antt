@@ -3,4 +3,5 @@ pub mod Judged
 pub mod Scans
 pub mod PageScans
 pub mod NextRows
+pub mod Storings
 pub mod Turns

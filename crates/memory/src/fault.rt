@@ -6,6 +6,8 @@ ghost use Rattle.memory.specs.Faults.{fault-number, fault-place};
 pub enum MemoryFault {
     /// The first row, along the round, that breaks the order.
     Disorder(usize),
+    /// There is no next row.
+    Full,
     /// No intact record has this number.
     Unknown,
 }
@@ -17,6 +19,7 @@ impl MemoryFault {
     {
         match self {
             MemoryFault::Disorder(_) => 21,
+            MemoryFault::Full => 24,
             MemoryFault::Unknown => 26,
         }
     }
@@ -27,7 +30,7 @@ impl MemoryFault {
     {
         match self {
             MemoryFault::Disorder(row) => row,
-            MemoryFault::Unknown => 0,
+            MemoryFault::Full | MemoryFault::Unknown => 0,
         }
     }
 }

@@ -8,6 +8,7 @@ mod order;
 mod page;
 mod reading;
 mod round;
+mod storing;
 
 pub use entry::Entry;
 pub use fault::MemoryFault;
@@ -16,3 +17,4 @@ pub use finding::next_number;
 pub use next::next_row;
 pub use order::check_order;
 pub use reading::newest;
+pub use storing::append;
