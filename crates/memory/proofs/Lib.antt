@@ -5,3 +5,4 @@ pub mod PageScans
 pub mod NextRows
 pub mod Storings
 pub mod Turns
+pub mod Releases

@@ -1,6 +1,6 @@
 -- The rows of a page, one by one
 use mathlib.Core.Path.{_≡_, refl, sym, ap, ap₂, _∙_}
-use mathlib.Core.Bool.{Bool, true, false, cond, not}
+use mathlib.Core.Bool.{Bool, true, false, cond, not, _&&_, _||_}
 use mathlib.Core.List.{List, [], _∷_}
 use mathlib.Core.Option.{Option, none, some}
 use Prim.Native.Nat.{ℕ, suc, _+_, _-_, _*_, _<_, _≤_}
@@ -11,8 +11,9 @@ use Rattle.std.proofs.shelf.Tests.{ne-eqb, lt-ltb, le-ltb, cases-lt}
 use Rattle.rules.specs.Lists.{from, when-some}
 use Rattle.rules.specs.Records.{Record}
 use Rattle.rules.specs.Rows.{is-blank}
-use Rattle.rules.specs.Memory.{Rows, row-at, rows-of, intact-in, after-nonblank, free-in, holds-record}
+use Rattle.rules.specs.Memory.{Rows, row-at, rows-of, intact-in, after-nonblank, free-in, holds-record, dated-from, all-blank}
 use Rattle.memory.specs.Entries.{entry-in}
+use Rattle.memory.specs.Releases.{is-dated}
 use Rattle.memory.proofs.Scans.{from-next, intact-next}
 
 module _ (rows : Rows) (page : ℕ) where
@@ -74,3 +75,36 @@ module _ (rows : Rows) (page : ℕ) where
   pub any-none : (i : ℕ) → 16 ≤ i → any-left i ≡ false
   unfolding intact-in
   any-none i past = ap (λ is. not (eqb (length (intact-in rows is)) 0)) (page-none i past)
+
+  -- ---- Dates
+
+  pub dated-begin : (day : ℕ) → dated-from day (intact-in rows (rows-of page)) ≡ dated-from day (intact-in rows (page-left 0))
+  dated-begin day = ap (λ is. dated-from day (intact-in rows is)) page-begin
+
+  pub dated-more : (day i : ℕ) → i < 16
+      → dated-from day (intact-in rows (page-left i)) ≡ (is-dated day (entry-in rows (page * 16 + i)) || dated-from day (intact-in rows (page-left (i + 1))))
+  unfolding dated-from
+  dated-more day i inside = ap (dated-from day) (any-next i inside) ∙ by (entry-in rows (page * 16 + i))
+    where
+      by : (o : Option (ℕ × Record))
+          → dated-from day (when-some o (intact-in rows (page-left (i + 1))) (λ x. x ∷ intact-in rows (page-left (i + 1))))
+          ≡ (is-dated day o || dated-from day (intact-in rows (page-left (i + 1))))
+      by none = refl
+      by (some x) = refl
+
+  pub dated-none : (day i : ℕ) → 16 ≤ i → dated-from day (intact-in rows (page-left i)) ≡ false
+  unfolding dated-from intact-in
+  dated-none day i past = ap (λ is. dated-from day (intact-in rows is)) (page-none i past)
+
+  -- ---- Blank pages
+
+  pub blank-begin : all-blank rows (rows-of page) ≡ all-blank rows (page-left 0)
+  blank-begin = ap (all-blank rows) page-begin
+
+  pub blank-more : (i : ℕ) → i < 16 → all-blank rows (page-left i) ≡ (is-blank (row-at rows (page * 16 + i)) && all-blank rows (page-left (i + 1)))
+  unfolding all-blank
+  blank-more i inside = ap (all-blank rows) (page-more i inside)
+
+  pub blank-none : (i : ℕ) → 16 ≤ i → all-blank rows (page-left i) ≡ true
+  unfolding all-blank
+  blank-none i past = ap (all-blank rows) (page-none i past)

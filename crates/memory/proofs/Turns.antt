@@ -17,39 +17,39 @@ use Rattle.rules.proofs.Counting.{from-append}
 use Rattle.rules.proofs.Rounds.{turn}
 use Rattle.rules.proofs.Memories.{start, start-fits, round-rows}
 use Rattle.memory.specs.Entries.{entry-in}
-use Rattle.memory.specs.Rounds.{row-along, if-numbered, may-follow, disorder-from, order-step}
+use Rattle.memory.specs.Rounds.{place-along, if-numbered, may-follow, disorder-from, order-step}
 use Rattle.memory.proofs.Scans.{from-more, from-none, intact-next}
 
 module _ (first count : ℕ) where
   -- the rows that come after k others
   abbrev pub left : ℕ → List ℕ
-  left k = map (row-along first count) (from k (count - k))
+  left k = map (place-along first count) (from k (count - k))
 
-  pub left-more : (k : ℕ) → k < count → left k ≡ row-along first count k ∷ left (k + 1)
-  left-more k inside = ap (map (row-along first count)) (from-more k count inside)
+  pub left-more : (k : ℕ) → k < count → left k ≡ place-along first count k ∷ left (k + 1)
+  left-more k inside = ap (map (place-along first count)) (from-more k count inside)
 
   pub left-none : (k : ℕ) → count ≤ k → left k ≡ []
-  left-none k past = ap (map (row-along first count)) (from-none k count past)
+  left-none k past = ap (map (place-along first count)) (from-none k count past)
 
-  before-end : (a : ℕ) → first + a < count → row-along first count a ≡ first + a
+  before-end : (a : ℕ) → first + a < count → place-along first count a ≡ first + a
   before-end a h = ap (λ t. cond t (first + a) (first + a - count)) (lt-ltb (first + a) count h)
 
-  past-end : (a : ℕ) → count ≤ first + a → row-along first count a ≡ first + a - count
+  past-end : (a : ℕ) → count ≤ first + a → place-along first count a ≡ first + a - count
   past-end a h = ap (λ t. cond t (first + a) (first + a - count)) (le-ltb (first + a) count h)
 
-  early : (a n b : ℕ) → b ≡ first + a → b + n ≤ count → map (row-along first count) (from a n) ≡ from b n
+  early : (a n b : ℕ) → b ≡ first + a → b + n ≤ count → map (place-along first count) (from a n) ≡ from b n
   early a zero b e h = refl
   early a (suc n) b e h = ap₂ _∷_ (before-end a (omega arith) ∙ sym e) (early (suc a) n (suc b) (omega arith) (omega arith))
 
-  late : (a n b : ℕ) → b + count ≡ first + a → map (row-along first count) (from a n) ≡ from b n
+  late : (a n b : ℕ) → b + count ≡ first + a → map (place-along first count) (from a n) ≡ from b n
   late a zero b e = refl
   late a (suc n) b e = let here : first + a - count ≡ b = omega arith in ap₂ _∷_ (past-end a (omega arith) ∙ here) (late (suc a) n (suc b) (omega arith))
 
   pub turn-is-left : first ≤ count → turn first count ≡ left 0
   turn-is-left fits =
       sym
-      (ap (map (row-along first count)) (sym (from-append 0 (count - first) first (count - first) (count - 0) (omega arith) (omega arith)))
-      ∙ (map-append (row-along first count) (from 0 (count - first)) (from (count - first) first)
+      (ap (map (place-along first count)) (sym (from-append 0 (count - first) first (count - first) (count - 0) (omega arith) (omega arith)))
+      ∙ (map-append (place-along first count) (from 0 (count - first)) (from (count - first) first)
       ∙ ap₂ _++_ (early 0 (count - first) first (omega arith) (omega arith)) (late (count - first) first 0 (omega arith))))
 
 -- ---- The records that are left of a round
@@ -60,7 +60,7 @@ module _ (rows : Rows) (first : ℕ) where
 
   -- the record of the next row, if it has one, and those after it
   pub records-more :
-      (k i : ℕ) → k < length rows → i ≡ row-along first (length rows) k
+      (k i : ℕ) → k < length rows → i ≡ place-along first (length rows) k
       → records-left k ≡ when-some (entry-in rows i) (records-left (k + 1)) (λ x. x ∷ records-left (k + 1))
   records-more k i inside here =
       ap (intact-in rows) (left-more first (length rows) k inside ∙ ap (λ j. j ∷ left first (length rows) (k + 1)) (sym here))
@@ -132,11 +132,11 @@ order-breaks last kept (some x) xs number place e = at (may-follow last (x .1)) 
 
 -- ---- A turn of a loop along the round
 
-module _ (rows : Rows) (count first k i : ℕ) (size : length rows ≡ count) (begins : first ≡ start rows) (here : i ≡ row-along first count k) (inside : k < count) where
+module _ (rows : Rows) (count first k i : ℕ) (size : length rows ≡ count) (begins : first ≡ start rows) (here : i ≡ place-along first count k) (inside : k < count) where
   pub next-records :
       records-left rows (start rows) k
       ≡ when-some (entry-in rows i) (records-left rows (start rows) (k + 1)) (λ x. x ∷ records-left rows (start rows) (k + 1))
-  next-records = records-more rows (start rows) k i (omega arith) (here ∙ ap₂ (λ f n. row-along f n k) begins (sym size))
+  next-records = records-more rows (start rows) k i (omega arith) (here ∙ ap₂ (λ f n. place-along f n k) begins (sym size))
 
   pub find-step : (n : ℕ) → find-among n (records-left rows (start rows) k) ≡ or-else (if-numbered n (entry-in rows i)) (find-among n (records-left rows (start rows) (k + 1)))
   find-step n = ap (find-among n) next-records ∙ find-more n (entry-in rows i) (records-left rows (start rows) (k + 1))

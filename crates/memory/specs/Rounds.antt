@@ -10,8 +10,8 @@ use Rattle.rules.specs.Memory.{Rows, pages, disorder-among, disorder-after, fre
 use Rattle.rules.specs.Media.{Outcome, accepted, refused}
 
 -- the row after k others in a round of so many rows that starts with the first
-abbrev pub row-along : (first count k : ℕ) → ℕ
-row-along first count k = cond (ltb (first + k) count) (first + k) (first + k - count)
+abbrev pub place-along : (first count k : ℕ) → ℕ
+place-along first count k = cond (ltb (first + k) count) (first + k) (first + k - count)
 
 -- the record, if it has that number
 abbrev pub if-numbered : (number : ℕ) → Option (ℕ × Record) → Option Record

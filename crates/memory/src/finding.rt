@@ -10,7 +10,7 @@ use crate::fault::MemoryFault;
 use crate::reading::entry_at;
 use crate::reading::newest;
 use crate::round::first_row;
-use crate::round::row_along;
+use crate::round::place_along;
 use media::Medium;
 use records::Record;
 
@@ -45,7 +45,7 @@ pub fn find<M: Medium>(m: &M, number: u32) -> Result<Record, MemoryFault>
     let count = m.size() * 16;
     let first = first_row(m);
     for k in 0..count {
-        let next = entry_at(m, row_along(first, count, k));
+        let next = entry_at(m, place_along(first, count, k));
         match if_numbered(next, number) {
             Some(found) => return Ok(found),
             None => {}

@@ -6,7 +6,9 @@ mod finding;
 mod next;
 mod order;
 mod page;
+mod pages;
 mod reading;
+mod release;
 mod round;
 mod storing;
 

@@ -8,7 +8,7 @@ use crate::entry::Entry;
 use crate::fault::MemoryFault;
 use crate::reading::entry_at;
 use crate::round::first_row;
-use crate::round::row_along;
+use crate::round::place_along;
 use media::Medium;
 use records::Record;
 
@@ -44,7 +44,7 @@ pub fn check_order<M: Medium>(m: &M) -> Result<(), MemoryFault>
     let first = first_row(m);
     let mut last = None;
     for k in 0..count {
-        let next = entry_at(m, row_along(first, count, k));
+        let next = entry_at(m, place_along(first, count, k));
         last = check_next(last, next)?;
     }
     Ok(())

@@ -6,7 +6,10 @@ ghost use Prim.Native.Nat.{ℕ, _+_, _<_};
 ghost use lib.ListN.{length};
 ghost use Rattle.rules.specs.Lists.{told};
 ghost use Rattle.rules.specs.Rows.{is-blank};
-ghost use Rattle.rules.specs.Memory.{row-at, pages, free-in, holds-record};
+ghost use Rattle.rules.specs.Memory.{row-at, pages, rows-of, intact-in, free-in, holds-record, dated-from, all-blank};
+ghost use Rattle.memory.specs.Entries.{entry-of};
+ghost use Rattle.memory.specs.Releases.{is-dated};
+use crate::entry::Entry;
 use crate::reading::entry_at;
 use media::Medium;
 use records::Verdict;
@@ -71,4 +74,40 @@ pub(crate) fn holds_record<M: Medium>(m: &M, page: usize) -> bool
         }
     }
     false
+}
+
+/// Whether a record is of the day or later.
+fn is_dated(entry: Option<Entry>, day: u16) -> bool
+    ensures { λ r. ⌜ r ≡ is-dated day (told entry-of entry) ⌝ }
+{
+    match entry {
+        Some(entry) => day <= entry.weighing.day,
+        None => false,
+    }
+}
+
+/// Whether a page holds a record of the day or later.
+pub(crate) fn dated_from<M: Medium>(m: &M, day: u16, page: usize) -> bool
+    requires { ⌜ page < pages (rows (now m)) ⌝ }
+    ensures { λ r. ⌜ r ≡ dated-from day (intact-in (rows (now (m .entry))) (rows-of page)) ⌝ }
+{
+    for i in 0..16 {
+        if is_dated(entry_at(m, page * 16 + i), day) {
+            return true;
+        }
+    }
+    false
+}
+
+/// Whether all rows of a page are blank.
+pub(crate) fn all_blank<M: Medium>(m: &M, page: usize) -> bool
+    requires { ⌜ page < pages (rows (now m)) ⌝ }
+    ensures { λ r. ⌜ r ≡ all-blank (rows (now (m .entry))) (rows-of page) ⌝ }
+{
+    for i in 0..16 {
+        if !is_blank(m, page * 16 + i) {
+            return false;
+        }
+    }
+    true
 }

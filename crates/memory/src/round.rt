@@ -3,7 +3,7 @@
 ghost use mathlib.Core.Path.{_≡_};
 ghost use Prim.Native.Nat.{ℕ, _<_, _≤_};
 ghost use Rattle.rules.proofs.Memories.{start};
-ghost use Rattle.memory.specs.Rounds.{row-along};
+ghost use Rattle.memory.specs.Rounds.{place-along};
 use crate::reading::newest;
 use media::Medium;
 
@@ -18,9 +18,9 @@ pub(crate) fn first_row<M: Medium>(m: &M) -> usize
 }
 
 /// The row that comes after k others, along a round that starts with the first.
-pub(crate) fn row_along(first: usize, count: usize, k: usize) -> usize
+pub(crate) fn place_along(first: usize, count: usize, k: usize) -> usize
     requires { ⌜ first ≤ count ⌝ ∗ ⌜ k < count ⌝ ∗ ⌜ count ≤ 1024 ⌝ }
-    ensures { λ r. ⌜ r ≡ row-along first count k ⌝ }
+    ensures { λ r. ⌜ r ≡ place-along first count k ⌝ }
 {
     let row = first + k;
     if row < count { row } else { row - count }

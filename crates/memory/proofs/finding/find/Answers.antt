@@ -11,8 +11,8 @@ use Rattle.memory.specs.Rounds.{if-numbered}
 use Rattle.memory.proofs.Turns.{records-left, records-begin, records-none, find-step, nothing-found}
 use Rattle.memory.proofs.finding.find.Needs as need
 
-pub row-along-requires : need.row-along-requires
-row-along-requires g c κs =
+pub place-along-requires : need.place-along-requires
+place-along-requires g c κs =
     let rows = g .M·Medium .rows (c .args .m .now) in
     let shape = g .M·Medium .shape (c .args .m .now) in
     let fits = start-fits rows (shape .pages) (shape .whole) in
@@ -29,7 +29,7 @@ pub loop-k-again : need.loop-k-again
 loop-k-again g c =
     let rows = g .M·Medium .rows (c .args .m .now) in
     let size : length rows ≡ c .size-count .result * 16 = omega (arith, c .size-count .ensures) in
-    let step = find-step rows _ _ (c .loop-k .k) _ size (c .first-row-first .ensures) (c .row-along .ensures) (c .loop-k-test .taken) (c .args .number) in
+    let step = find-step rows _ _ (c .loop-k .k) _ size (c .first-row-first .ensures) (c .place-along .ensures) (c .loop-k-test .taken) (c .args .number) in
     let miss = c .in-None .ensures tt ∙ ap (if-numbered (c .args .number)) (c .entry-at-next .ensures) in
     c .loop-k .inv ∙ step ∙ ap (λ o. or-else o (find-among (c .args .number) (records-left rows (start rows) (c .loop-k .k + 1)))) (sym miss)
 
@@ -37,7 +37,7 @@ pub returns-in-Some : need.returns-in-Some
 returns-in-Some g c =
     let rows = g .M·Medium .rows (c .args .m .now) in
     let size : length rows ≡ c .size-count .result * 16 = omega (arith, c .size-count .ensures) in
-    let step = find-step rows _ _ (c .loop-k .k) _ size (c .first-row-first .ensures) (c .row-along .ensures) (c .loop-k-test .taken) (c .args .number) in
+    let step = find-step rows _ _ (c .loop-k .k) _ size (c .first-row-first .ensures) (c .place-along .ensures) (c .loop-k-test .taken) (c .args .number) in
     let hit = c .in-Some .ensures tt ∙ ap (if-numbered (c .args .number)) (c .entry-at-next .ensures) in
     ap (λ o. when-some o (refused 26 0, none) (λ r. (accepted, some r)))
     (c .loop-k .inv ∙ step ∙ ap (λ o. or-else o (find-among (c .args .number) (records-left rows (start rows) (c .loop-k .k + 1)))) (sym hit))

@@ -14,8 +14,8 @@ use Rattle.memory.specs.Faults.{fault-number, fault-place, outcome}
 use Rattle.memory.proofs.Turns.{records-left, records-begin, records-none, next-records, order-none, order-goes-on, order-breaks}
 use Rattle.memory.proofs.order.check_order.Needs as need
 
-pub row-along-requires : need.row-along-requires
-row-along-requires g c κs =
+pub place-along-requires : need.place-along-requires
+place-along-requires g c κs =
     let rows = g .M·Medium .rows (c .args .m .now) in
     let shape = g .M·Medium .shape (c .args .m .now) in
     let fits = start-fits rows (shape .pages) (shape .whole) in
@@ -41,7 +41,7 @@ loop-k-again g c =
     let rows = g .M·Medium .rows (c .args .m .now) in
     let size : length rows ≡ c .size-count .result * 16 = omega (arith, c .size-count .ensures) in
     let last = told record-of (c .loop-k .last) in
-    let step = next-records rows _ _ (c .loop-k .k) _ size (c .first-row-first .ensures) (c .row-along .ensures) (c .loop-k-test .taken) in
+    let step = next-records rows _ _ (c .loop-k .k) _ size (c .first-row-first .ensures) (c .place-along .ensures) (c .loop-k-test .taken) in
     c .loop-k .inv
     ∙ ap (disorder-from last) step
     ∙ order-goes-on last _ _ (records-left rows (start rows) (c .loop-k .k + 1)) (c .in-Continue-last .ensures tt ∙ ap (order-step last) (c .entry-at-next .ensures))
@@ -51,7 +51,7 @@ returns-in-Break-last g c =
     let rows = g .M·Medium .rows (c .args .m .now) in
     let size : length rows ≡ c .size-count .result * 16 = omega (arith, c .size-count .ensures) in
     let last = told record-of (c .loop-k .last) in
-    let step = next-records rows _ _ (c .loop-k .k) _ size (c .first-row-first .ensures) (c .row-along .ensures) (c .loop-k-test .taken) in
+    let step = next-records rows _ _ (c .loop-k .k) _ size (c .first-row-first .ensures) (c .place-along .ensures) (c .loop-k-test .taken) in
     let fault = c .in-Break-last .field-0 .0 in
     let same : outcome (c .from-residual .result) ≡ refused (fault-number fault) (fault-place fault) = search needs in
     same
