@@ -8,7 +8,7 @@ mod order;
 mod page;
 mod pages;
 mod reading;
-mod release;
+mod releasing;
 mod round;
 mod storing;
 
@@ -18,5 +18,8 @@ pub use finding::find;
 pub use finding::next_number;
 pub use next::next_row;
 pub use order::check_order;
+pub use pages::Pages;
 pub use reading::newest;
+pub use releasing::release;
+pub use releasing::released_pages;
 pub use storing::append;

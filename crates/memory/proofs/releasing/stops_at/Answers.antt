@@ -2,7 +2,7 @@ use mathlib.Core.Path.{_≡_, sym, ap, _∙_}
 use mathlib.Core.Bool.{_||_}
 use Rattle.rules.specs.Memory.{newest, stops-at}
 use Rattle.memory.specs.Releases.{is-newest-page}
-use Rattle.memory.proofs.release.stops_at.Needs as need
+use Rattle.memory.proofs.releasing.stops_at.Needs as need
 
 pub returns-then-dated-from : need.returns-then-dated-from
 unfolding stops-at

@@ -9,7 +9,7 @@ ghost use Rattle.rules.specs.Lists.{told};
 ghost use Rattle.rules.specs.Memory.{pages, rows-of, all-blank, newest as newest-of, stops-at, released-pages};
 ghost use Rattle.rules.proofs.Memories.{first-page};
 ghost use Rattle.memory.specs.Entries.{entry-of};
-ghost use Rattle.memory.specs.Releases.{pages-of, is-newest-page};
+ghost use Rattle.memory.specs.Releases.{pages-of, is-newest-page, releases};
 use crate::entry::Entry;
 use crate::page::all_blank;
 use crate::page::dated_from;
@@ -24,7 +24,10 @@ impl Pages {
         ensures pages { λ r. ⌜ pages-of r ≡ [] ⌝ }
         ensures len { λ r. ⌜ r .len ≡ 0 ⌝ }
     {
-        Pages { list: [0; 64], len: 0 }
+        Pages {
+            list: [0; 64],
+            len: 0,
+        }
     }
 
     /// One page more.
@@ -97,4 +100,16 @@ pub fn released_pages<M: Medium>(m: &M, day: u16) -> Pages
         found = with_unless_blank(m, found, page);
     }
     found
+}
+
+/// Erases the pages of a release for a day, one write each; answers how many.
+pub fn release<M: Medium>(m: &mut M, day: u16) -> usize
+    ensures says { λ r. ⌜ releases (rows (now (m .entry))) (count (now (m .entry))) day ≡ (r, rows (now (m .exit)), count (now (m .exit))) ⌝ }
+    ensures lender { λ _. ⌜ lender (now (m .exit)) ≡ lender (now (m .entry)) ⌝ }
+{
+    let found = released_pages(&*m, day);
+    for i in 0..found.len {
+        let _ = m.erase(found.list[i]);
+    }
+    found.len
 }

@@ -8,7 +8,7 @@ use Rattle.rules.proofs.Memories.{first-page}
 use Rattle.memory.specs.Rounds.{place-along}
 use Rattle.memory.specs.Releases.{pages-of}
 use Rattle.memory.proofs.Releases.{along-inside, first-fits, to-erase, erase-begin, erase-stops, erase-goes-on, erase-none}
-use Rattle.memory.proofs.release.released_pages.Needs as need
+use Rattle.memory.proofs.releasing.released_pages.Needs as need
 
 pub loop-k-holds : need.loop-k-holds
 loop-k-holds g c =
@@ -39,7 +39,7 @@ returns-then-stops-at g c =
     sym
     (c .loop-k .inv .0
     ∙ erase-stops rows (c .args .day) (pages-of (c .loop-k .found)) (c .loop-k .k) (c .place-along-page .result) (omega (arith, c .size-size .ensures)) here
-      (sym (c .stops-at .ensures) ∙ c .if-stops-at .taken))
+    (sym (c .stops-at .ensures) ∙ c .if-stops-at .taken))
 
 pub with-unless-blank-found-requires : need.with-unless-blank-found-requires
 with-unless-blank-found-requires g c κs =
@@ -53,11 +53,10 @@ pub loop-k-again : need.loop-k-again
 loop-k-again g c =
     let rows = g .M·Medium .rows (c .args .m .now) in
     let size : c .size-size .result ≡ pages rows = omega (arith, c .size-size .ensures) in
-    let here = c .place-along-page .ensures ∙ ap₂ (λ f n. place-along f n (c .loop-k .k)) (c .first-page-first .ensures) size in
-    (
+    let here = c .place-along-page .ensures ∙ ap₂ (λ f n. place-along f n (c .loop-k .k)) (c .first-page-first .ensures) size in (
       c .loop-k .inv .0
-      ∙ erase-goes-on rows (c .args .day) (pages-of (c .loop-k .found)) (c .loop-k .k) (c .place-along-page .result) (omega (arith, c .size-size .ensures)) here _
-        (sym (c .stops-at .ensures) ∙ c .if-stops-at .left) (c .with-unless-blank-found .ensures .pages),
+          ∙ erase-goes-on rows (c .args .day) (pages-of (c .loop-k .found)) (c .loop-k .k) (c .place-along-page .result) (omega (arith, c .size-size .ensures)) here _
+          (sym (c .stops-at .ensures) ∙ c .if-stops-at .left) (c .with-unless-blank-found .ensures .pages),
       omega (arith, c .loop-k .inv .1, c .with-unless-blank-found .ensures .len),
     )
 

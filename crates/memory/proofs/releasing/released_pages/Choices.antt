@@ -4,7 +4,7 @@ use Prim.Native.Nat.{_≤_}
 use Rattle.rules.specs.Memory.{released-pages}
 use Rattle.memory.specs.Releases.{pages-of}
 use Rattle.memory.proofs.Releases.{to-erase}
-use Rattle.memory.proofs.release.released_pages.Given as given
+use Rattle.memory.proofs.releasing.released_pages.Given as given
 
 -- those found so far and those that are left make up the release
 abbrev pub Inv-loop-k : given.InvT-loop-k
