@@ -12,7 +12,7 @@ use Rattle.rules.specs.Lists.{from, when-some, or-else}
 use Rattle.rules.specs.Records.{Record}
 use Rattle.rules.specs.Rows.{read-row}
 use Rattle.rules.specs.Memory.{Rows, row-at, intact-in, along-round, find-among, disorder-among, disorder-after}
-use Rattle.rules.specs.Media.{Outcome, accepted, refused}
+use Rattle.rules.specs.Media.{Shaped, Outcome, accepted, refused}
 use Rattle.rules.proofs.Counting.{from-append}
 use Rattle.rules.proofs.Rounds.{turn}
 use Rattle.rules.proofs.Memories.{start, start-fits, round-rows}
@@ -131,6 +131,12 @@ order-breaks last kept (some x) xs number place e = at (may-follow last (x .1)) 
         ∙ sym (ap (λ o. when-some o accepted (refused 21)) (order-more last x xs ∙ ap (λ t. cond t (disorder-from (some (x .1)) xs) (some (x .0))) is))
 
 -- ---- A turn of a loop along the round
+
+-- the places that the loop asks for lie in the round
+pub asks-within : (rows : Rows) → Shaped rows → (first size k : ℕ) → length rows ≡ 16 * size → first ≡ start rows → k < size * 16
+    → (first ≤ size * 16) × ((k < size * 16) × (size * 16 ≤ 1024))
+asks-within rows shape first size k told begins inside =
+    (omega (arith, start-fits rows (shape .pages) (shape .whole), told, begins), (inside, omega (arith, shape .whole, shape .most, told)))
 
 module _ (rows : Rows) (count first k i : ℕ) (size : length rows ≡ count) (begins : first ≡ start rows) (here : i ≡ place-along first count k) (inside : k < count) where
   pub next-records :

@@ -11,15 +11,13 @@ use Rattle.rules.proofs.Memories.{start, start-fits}
 use Rattle.records.specs.Records-of.{record-of}
 use Rattle.memory.specs.Rounds.{disorder-from, order-step}
 use Rattle.memory.specs.Faults.{fault-number, fault-place, outcome}
-use Rattle.memory.proofs.Turns.{records-left, records-begin, records-none, next-records, order-none, order-goes-on, order-breaks}
+use Rattle.memory.proofs.Turns.{asks-within, records-left, records-begin, records-none, next-records, order-none, order-goes-on, order-breaks}
 use Rattle.memory.proofs.order.check_order.Needs as need
 
 pub place-along-requires : need.place-along-requires
 place-along-requires g c κs =
-    let rows = g .M·Medium .rows (c .args .m .now) in
-    let shape = g .M·Medium .shape (c .args .m .now) in
-    let fits = start-fits rows (shape .pages) (shape .whole) in
-    (omega (arith, fits, c .size-count .ensures, c .first-row-first .ensures), (omega arith, omega (arith, shape .whole, shape .most, c .size-count .ensures)))
+    let m = c .args .m .now in
+    asks-within (g .M·Medium .rows m) (g .M·Medium .shape m) _ _ (c .loop-k .k) (c .size-count .ensures) (c .first-row-first .ensures) (c .loop-k-test .taken)
 
 pub loop-k-holds : need.loop-k-holds
 unfolding disorder
