@@ -1,9 +1,9 @@
 -- Settings of this crate are settings that passed their check
-use mathlib.Core.Path.{_≡_, refl}
+use mathlib.Core.Path.{refl}
 use mathlib.Core.Logic.{inl, inr}
 use Prim.Native.Nat.{ℕ, _≤_}
 use native.Mathlib.Omega.{arith}
-use Rattle.rules.specs.Settings.{Settings as Settings-by-rule, Passed}
+use Rattle.rules.specs.Settings.{Passed}
 use Rattle.loads.specs.declared.interval.Interval.{Interval}
 use Rattle.loads.specs.declared.interval.Interval.the-variants.{One, Two, Five, Ten, Twenty, Fifty}
 use Rattle.loads.specs.declared.class.Class.{Class}

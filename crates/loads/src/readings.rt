@@ -4,7 +4,7 @@ ghost use mathlib.Core.List.{[], _∷_, _++_};
 ghost use mathlib.Core.Option.{none, some};
 ghost use lib.Dec.{eqb};
 ghost use lib.ListN.{length, getD, drop};
-ghost use lib.IntN.{ℤ, pos, negsuc};
+ghost use lib.IntN.{pos, negsuc};
 ghost use lib.Signed.{_≤ℤ_};
 ghost use Rattle.rules.specs.Lists.{told};
 ghost use Rattle.rules.specs.Loads.{sum as sum-of, mean as mean-of, highest, lowest, nearest, stable};

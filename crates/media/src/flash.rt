@@ -1,6 +1,6 @@
 ghost use mathlib.Core.Path.{_≡_};
 ghost use mathlib.Core.Bool.{true};
-ghost use Prim.Native.Nat.{ℕ, _%_, _^_, _<_, _≤_};
+ghost use Prim.Native.Nat.{_%_, _^_, _<_, _≤_};
 ghost use denote.Ref.{now, name};
 ghost use lib.ListN.{length};
 ghost use Rattle.rules.specs.Media.{is-medium-size, rows-in};

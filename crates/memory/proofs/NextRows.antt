@@ -1,19 +1,19 @@
 -- The first page of the round, and the next row
 use mathlib.Core.Path.{_≡_, refl, sym, ap, ap₂, _∙_}
 use mathlib.Core.Logic.{⊎-elim}
-use mathlib.Core.Bool.{Bool, cond}
-use mathlib.Core.List.{List, [], _∷_, _++_}
+use mathlib.Core.Bool.{cond}
+use mathlib.Core.List.{List, _∷_, _++_}
 use mathlib.Core.Option.{Option, none, some}
-use Prim.Native.Nat.{ℕ, suc, _+_, _-_, _*_, _<_, _≤_}
+use Prim.Native.Nat.{ℕ, _+_, _-_, _*_, _<_, _≤_}
 use native.Mathlib.Omega.{arith}
 use lib.Dec.{ltb}
 use lib.ListN.{length}
 use Rattle.std.proofs.shelf.Tests.{lt-ltb, le-ltb, cases-lt}
 use Rattle.rules.specs.Lists.{from, when-some, or-else}
 use Rattle.rules.specs.Records.{Record}
-use Rattle.rules.specs.Memory.{Rows, pages, page-of, newest, round, free-in, holds-record, free-in-first, next-row}
+use Rattle.rules.specs.Memory.{Rows, pages, page-of, newest, free-in, free-in-first, next-row}
 use Rattle.rules.proofs.Memories.{first-page, round-is, newest-found}
-use Rattle.memory.specs.Rounds.{page-after, free-in-empty, next-after}
+use Rattle.memory.specs.Rounds.{free-in-empty, next-after}
 use Rattle.memory.proofs.Scans.{from-next}
 
 -- the free row of the first page, where there are pages

@@ -1,5 +1,5 @@
 -- The rows of a page, one by one
-use mathlib.Core.Path.{_≡_, refl, sym, ap, ap₂, _∙_}
+use mathlib.Core.Path.{_≡_, refl, ap, ap₂, _∙_}
 use mathlib.Core.Bool.{Bool, true, false, cond, not, _&&_, _||_}
 use mathlib.Core.List.{List, [], _∷_}
 use mathlib.Core.Option.{Option, none, some}
@@ -7,7 +7,7 @@ use Prim.Native.Nat.{ℕ, suc, _+_, _-_, _*_, _<_, _≤_}
 use native.Mathlib.Omega.{arith}
 use lib.Dec.{ltb, eqb}
 use lib.ListN.{length}
-use Rattle.std.proofs.shelf.Tests.{ne-eqb, lt-ltb, le-ltb, cases-lt}
+use Rattle.std.proofs.shelf.Tests.{ne-eqb}
 use Rattle.rules.specs.Lists.{from, when-some}
 use Rattle.rules.specs.Records.{Record}
 use Rattle.rules.specs.Rows.{is-blank}

@@ -5,13 +5,12 @@ use mathlib.Core.Option.{Option, none, some}
 use mathlib.Core.List.{List, [], _∷_, _++_, map, map-append}
 use Prim.Native.Nat.{ℕ, zero, suc, _+_, _-_, _*_, _<_, _≤_}
 use native.Mathlib.Omega.{arith}
-use lib.Dec.{ltb, eqb}
+use lib.Dec.{eqb}
 use lib.ListN.{length}
 use Rattle.std.proofs.shelf.Tests.{lt-ltb, le-ltb}
 use Rattle.rules.specs.Lists.{from, when-some, or-else}
 use Rattle.rules.specs.Records.{Record}
-use Rattle.rules.specs.Rows.{read-row}
-use Rattle.rules.specs.Memory.{Rows, row-at, intact-in, along-round, find-among, disorder-among, disorder-after}
+use Rattle.rules.specs.Memory.{Rows, intact-in, along-round, find-among, disorder-among, disorder-after}
 use Rattle.rules.specs.Media.{Shaped, Outcome, accepted, refused}
 use Rattle.rules.proofs.Counting.{from-append}
 use Rattle.rules.proofs.Rounds.{turn}

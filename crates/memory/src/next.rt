@@ -1,5 +1,5 @@
 ghost use mathlib.Core.Path.{_≡_};
-ghost use Prim.Native.Nat.{ℕ, _<_, _≤_};
+ghost use Prim.Native.Nat.{_<_, _≤_};
 ghost use Rattle.rules.specs.Lists.{told};
 ghost use Rattle.rules.specs.Memory.{pages, next-row};
 ghost use Rattle.memory.specs.Rounds.{page-after, free-in-empty, next-after};

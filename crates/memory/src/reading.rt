@@ -1,10 +1,8 @@
 ghost use mathlib.Core.Path.{_≡_};
-ghost use mathlib.Core.Option.{none, some};
-ghost use Prim.Native.Nat.{ℕ, _<_};
-ghost use lib.ListN.{length};
-ghost use Rattle.rules.specs.Lists.{told, when-some};
+ghost use Prim.Native.Nat.{_<_};
+ghost use Rattle.rules.specs.Lists.{told};
 ghost use Rattle.rules.specs.Rows.{read-row};
-ghost use Rattle.rules.specs.Memory.{row-at, newest as newest-of, next-number};
+ghost use Rattle.rules.specs.Memory.{newest as newest-of};
 ghost use Rattle.records.specs.Records-of.{record-of};
 ghost use Rattle.memory.specs.Entries.{entry-of, entry-in, better-of};
 use crate::entry::Entry;

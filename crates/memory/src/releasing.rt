@@ -3,8 +3,7 @@
 ghost use mathlib.Core.Path.{_≡_};
 ghost use mathlib.Core.Bool.{cond};
 ghost use mathlib.Core.List.{[], _∷_, _++_};
-ghost use Prim.Native.Nat.{ℕ, _+_, _<_, _≤_};
-ghost use lib.ListN.{length};
+ghost use Prim.Native.Nat.{_+_, _<_, _≤_};
 ghost use Rattle.rules.specs.Lists.{told};
 ghost use Rattle.rules.specs.Memory.{pages, rows-of, all-blank, newest as newest-of, stops-at, released-pages};
 ghost use Rattle.rules.proofs.Memories.{first-page};

@@ -1,7 +1,7 @@
 //! The rows of a memory as they come along its round.
 
 ghost use mathlib.Core.Path.{_≡_};
-ghost use Prim.Native.Nat.{ℕ, _<_, _≤_};
+ghost use Prim.Native.Nat.{_<_, _≤_};
 ghost use Rattle.rules.proofs.Memories.{start};
 ghost use Rattle.memory.specs.Rounds.{place-along};
 use crate::reading::newest;

@@ -5,15 +5,15 @@ use Prim.Native.Nat.{ℕ, zero, suc, _+_, _-_, _*_, _/_, _%_, _^_, _≤_, _<_}
 use native.Mathlib.Omega.{arith}
 use native.Mathlib.Nat.{pow-zero, pow-suc}
 use lib.ListN.{length, getD, take, drop}
-use borrow.Rule.Slice.PartMut.{putMid, midOf}
+use borrow.Rule.Slice.PartMut.{putMid}
 use Rattle.std.specs.shelf.Digits.{Under}
 use Rattle.std.proofs.shelf.Bits.{shr-shr, div-mul-add, mod-mul-add, div-below, mod-below, div-add-mod'}
 use Rattle.std.proofs.shelf.Digits.{numberAfter-append, number-push}
 use Rattle.std.proofs.shelf.Elements.{all-take, all-drop}
-use Rattle.std.proofs.shelf.Lists.{append-assoc, append-nil, drop-more, drop-all, drop-drop, take-all, take-more, take-append-drop, length-take-le, length-drop, getD-drop}
+use Rattle.std.proofs.shelf.Lists.{append-assoc, append-nil, drop-all, drop-drop, take-more, take-append-drop, length-take-le, length-drop, getD-drop}
 use Rattle.std.proofs.shelf.Parts.{take-putMid}
 use Rattle.rules.specs.Lists.{number-of, digits-of}
-use Rattle.rules.proofs.Digits.{number-below, digits-length, digits-under, number-of-digits, digits-of-number}
+use Rattle.rules.proofs.Digits.{number-below, digits-length, digits-of-number}
 
 -- ---- Eight bytes
 

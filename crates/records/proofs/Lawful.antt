@@ -1,10 +1,10 @@
 -- When the record of a weighing is lawful
 use mathlib.Core.Path.{_≡_, refl, sym}
-use mathlib.Core.Bool.{Bool, true, false, cond, not, _&&_}
+use mathlib.Core.Bool.{Bool, true, false, _&&_}
 use mathlib.Core.List.{List}
 use Prim.Native.Nat.{ℕ, _+_, _-_, _*_, _^_, _≤_, _<_}
 use native.Mathlib.Omega.{arith}
-use lib.Dec.{eqb, leb, ltb}
+use lib.Dec.{eqb, leb}
 use Rattle.std.proofs.shelf.Tests.{le-leb, lt-ltb, eq-eqb}
 use Rattle.std.proofs.shelf.Ways.{tells}
 use Rattle.rules.specs.Loads.{kg-of, price-of}

@@ -1,22 +1,22 @@
 -- A row by its number: its words, its check and its fields
-use mathlib.Core.Path.{_≡_, refl, sym, ap, subst, _∙_}
+use mathlib.Core.Path.{_≡_, refl, sym, ap, _∙_}
 use mathlib.Core.Bool.{Bool, true, false, cond, _&&_}
 use mathlib.Core.List.{List, [], _∷_, _++_}
-use mathlib.Core.Option.{Option, none, some}
-use Prim.Native.Nat.{ℕ, zero, suc, _+_, _-_, _*_, _/_, _%_, _^_, _≤_, _<_}
+use mathlib.Core.Option.{none, some}
+use Prim.Native.Nat.{ℕ, _+_, _-_, _*_, _/_, _%_, _^_, _≤_, _<_}
 use native.Mathlib.Omega.{arith}
 use lib.Count.{ones, ones-cat, ones-le}
 use lib.Dec.{eqb}
-use lib.ListN.{length, getD, take, drop, replicate}
+use lib.ListN.{length, getD, take, replicate}
 use Rattle.std.specs.shelf.Digits.{Under}
 use Rattle.std.proofs.shelf.Bits.{div-mul-add, mod-mul-add, div-below}
 use Rattle.std.proofs.shelf.Digits.{number-push}
 use Rattle.std.proofs.shelf.Elements.{all-getD, all-take}
-use Rattle.std.proofs.shelf.Lists.{drop-more, drop-all, take-all, take-more, length-take-le}
-use Rattle.std.proofs.shelf.Tests.{and-parts, eq-eqb, eqb-true}
+use Rattle.std.proofs.shelf.Lists.{take-all, take-more, length-take-le}
+use Rattle.std.proofs.shelf.Tests.{eq-eqb, eqb-true}
 use Rattle.rules.specs.Lists.{same, number-of, digits-of}
 use Rattle.rules.specs.Records.{Record, lawful}
-use Rattle.rules.specs.Rows.{fields, side-by-side, zeros, packing, field, unpacked, read-row, blank-row, is-blank, is-checked}
+use Rattle.rules.specs.Rows.{fields, side-by-side, zeros, packing, unpacked, read-row, blank-row, is-blank, is-checked}
 use Rattle.rules.proofs.BlankRows.{same-list, same-self, is-blank-row, blank-row-is-blank}
 use Rattle.rules.proofs.Digits.{number-below, number-of-digits, digits-of-number, digits-under, digits-length, number-in-front}
 use Rattle.rules.proofs.Fields.{side-below, read-back}

@@ -7,7 +7,6 @@ use Rattle.std.specs.declared.result.Result.the-variants.{Ok, Err}
 use Rattle.rules.specs.Rows.{Verdict as The-verdict, blank, wrong-check, wrong-fields, intact}
 use Rattle.records.specs.declared.row.Verdict.{Verdict}
 use Rattle.records.specs.declared.row.Verdict.the-variants.{Blank, Damaged, Intact}
-use Rattle.records.specs.declared.row.Damage.{Damage}
 use Rattle.records.specs.declared.row.Damage.the-variants.{Check, Fields}
 use Rattle.records.specs.declared.row.Unlawful.{Unlawful}
 use Rattle.records.specs.Records-of.{record-of}

@@ -1,5 +1,4 @@
 -- The fields of a row and their widths in bits
-use mathlib.Core.List.{List, [], _∷_}
 use Prim.Native.Nat.{ℕ}
 use Rattle.records.specs.declared.bits.Field.{Field}
 use Rattle.records.specs.declared.bits.Field.the-variants.{Kind, Number, Day, Minute, Interval, Gross, TareKind, Tare, Net, UnitPrice, Price, Mark, Spare, Check}

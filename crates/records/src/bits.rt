@@ -1,9 +1,7 @@
 //! Fields of a few bits each, side by side in words of 64 bits, through an accumulator.
 
 ghost use mathlib.Core.Path.{_≡_};
-ghost use Prim.Native.Nat.{ℕ, _+_, _-_, _*_, _/_, _%_, _^_, _<_, _≤_};
-ghost use lib.Count.{ones};
-ghost use lib.ListN.{length};
+ghost use Prim.Native.Nat.{_+_, _-_, _*_, _/_, _%_, _^_, _<_, _≤_};
 ghost use Rattle.rules.specs.Lists.{number-of};
 ghost use Rattle.records.specs.Widths.{width-of};
 ghost use Rattle.records.specs.Streams.{Steady, unread, bits-unread, Sound, written, bits-written};

@@ -3,7 +3,7 @@
 ghost use mathlib.Core.Path.{_≡_};
 ghost use mathlib.Core.Bool.{true, cond};
 ghost use mathlib.Core.Option.{none, some};
-ghost use Prim.Native.Nat.{ℕ, _+_, _*_, _/_, _^_, _<_, _≤_};
+ghost use Prim.Native.Nat.{_*_, _/_, _^_, _<_};
 ghost use lib.Count.{ones};
 ghost use Rattle.rules.specs.Lists.{number-of, told};
 ghost use Rattle.rules.specs.Records.{lawful};

@@ -1,11 +1,7 @@
 ghost use mathlib.Core.Path.{_≡_};
-ghost use mathlib.Core.Bool.{cond};
-ghost use mathlib.Core.Option.{none, some};
-ghost use Prim.Native.Nat.{ℕ, _-_, _*_, _≤_};
-ghost use Rattle.rules.specs.Lists.{told};
-ghost use Rattle.rules.specs.Loads.{kg-of, price-of};
+ghost use mathlib.Core.Option.{none};
+ghost use Prim.Native.Nat.{_-_, _*_};
 ghost use Rattle.rules.specs.Records.{lawful-tare, lawful, earlier as earlier-stamp};
-ghost use Rattle.loads.specs.Intervals-of.{interval-code};
 ghost use Rattle.records.specs.Records-of.{tare-kind-of, tare-value-of, bounded, record-of};
 use crate::mark::Mark;
 use loads::Interval;

@@ -1,7 +1,7 @@
 //! A row of 32 bytes as four words of 64 bits, most significant byte first.
 
 ghost use mathlib.Core.Path.{_≡_};
-ghost use Prim.Native.Nat.{ℕ, _+_, _*_, _^_, _<_, _≤_};
+ghost use Prim.Native.Nat.{_+_, _*_, _^_, _≤_};
 ghost use lib.ListN.{take, drop};
 ghost use Rattle.rules.specs.Lists.{number-of, digits-of};
 

@@ -1,13 +1,12 @@
 -- Pairs of hex digits, one after another
 use mathlib.Core.Path.{_≡_, refl, sym, ap, _∙_}
-use mathlib.Core.Bool.{true, cond}
+use mathlib.Core.Bool.{cond}
 use mathlib.Core.List.{List, [], _∷_, _++_}
 use mathlib.Core.Option.{Option, none, some}
 use Prim.Native.Nat.{ℕ, _+_, _-_, _*_, _≤_, _<_}
 use native.Mathlib.Omega.{arith}
-use lib.Dec.{eqb}
 use lib.ListN.{length, getD, set, take, drop}
-use Rattle.std.proofs.shelf.Lists.{append-assoc, append-nil, drop-more, drop-all, take-all, take-more-set, length-set, take-at, length-push, length-take-le}
+use Rattle.std.proofs.shelf.Lists.{append-assoc, append-nil, drop-more, drop-all, take-all, take-more-set, take-at, length-push, length-take-le}
 use Rattle.std.proofs.shelf.Tests.{eq-eqb}
 use Rattle.rules.specs.Lists.{when-some}
 use Rattle.rows.specs.Hex.{hex-digit, hex-byte, hex-bytes, row-in}

@@ -1,7 +1,7 @@
 //! What the program writes for a line of its input.
 
 ghost use mathlib.Core.Path.{_≡_};
-ghost use Prim.Native.Nat.{ℕ, _≤_};
+ghost use Prim.Native.Nat.{_≤_};
 ghost use lib.ListN.{length};
 ghost use Rattle.rows.specs.Replies.{verdict-text, reply-to, reply-text};
 ghost use Rattle.records.specs.Verdicts.{verdict-of};

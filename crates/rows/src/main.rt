@@ -2,9 +2,7 @@
 //! what is wrong with it. It holds one line and one block of input at a time.
 
 ghost use mathlib.Core.Path.{_≡_};
-ghost use mathlib.Core.List.{[], _∷_, _++_};
-ghost use Prim.Native.Nat.{ℕ, _≤_};
-ghost use lib.ListN.{take};
+ghost use mathlib.Core.List.{[]};
 ghost use Rattle.rows.specs.Lines.{line-so-far, with-byte};
 
 mod answer;

@@ -4,14 +4,12 @@ use mathlib.Core.Bool.{Bool, true, false, cond}
 use mathlib.Core.List.{List, [], _∷_, _++_}
 use mathlib.Core.Option.{Option, none, some}
 use Prim.Native.Nat.{ℕ}
-use native.Mathlib.Omega.{arith}
-use lib.Dec.{eqb}
 use lib.ListN.{length, getD, take}
 use Rattle.std.proofs.shelf.Lists.{take-at, getD-push}
 use Rattle.std.proofs.shelf.Tests.{eq-eqb}
 use Rattle.rules.specs.Lists.{when-some, digits-of}
 use Rattle.rules.specs.Records.{Record}
-use Rattle.rules.specs.Rows.{fields, side-by-side, zeros, packing, read-row, blank-row, is-blank, Verdict, blank, wrong-check, wrong-fields, intact, is-checked, judged}
+use Rattle.rules.specs.Rows.{fields, side-by-side, zeros, packing, read-row, is-blank, Verdict, blank, wrong-check, wrong-fields, intact, is-checked, judged}
 use Rattle.rules.specs.Laws.{Judge-finds-intact-rows}
 use Rattle.rules.proofs.BlankRows.{is-blank-row}
 use Rattle.rules.proofs.Digits.{digits-length}

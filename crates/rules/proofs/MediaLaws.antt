@@ -1,7 +1,7 @@
 -- The rows of bytes, and what a write to the bytes does to them
 use mathlib.Core.Path.{_≡_, refl, sym, ap, _∙_}
-use mathlib.Core.Logic.{_⊎_, inl, inr, ⊎-elim}
-use mathlib.Core.List.{List, [], _∷_, _++_, map}
+use mathlib.Core.Logic.{_⊎_, inl, ⊎-elim}
+use mathlib.Core.List.{List, [], _∷_, _++_}
 use mathlib.Core.Bool.{Bool, true, false, cond}
 use Prim.Native.Nat.{ℕ, zero, suc, _+_, _-_, _*_, _/_, _%_, _<_, _≤_}
 use native.Mathlib.Omega.{arith}
@@ -12,12 +12,12 @@ use lib.Bits.{bitAnd, and-comm, and-mask}
 use lib.ListN.{length, getD, take, drop, set, replicate}
 use lib.Seq.{paste, length-paste}
 use Rattle.std.proofs.shelf.Edits.{paste-more, drop-paste}
-use Rattle.std.proofs.shelf.Lists.{same-lists, ext-getD, places, drop-take, drop-at, take-at, length-take-le, length-set, getD-set-same, getD-set-other, length-append, length-take, length-drop, length-map, length-replicate, getD-map, getD-replicate, getD-drop, getD-take, drop-drop, drop-append-le, take-append-le, drop-replicate, take-replicate}
+use Rattle.std.proofs.shelf.Lists.{same-lists, ext-getD, places, drop-take, drop-at, take-at, length-take-le, length-set, getD-set-same, getD-set-other, length-take, length-drop, length-map, length-replicate, getD-map, getD-replicate, getD-drop, getD-take, drop-drop, drop-append-le, take-append-le, drop-replicate, take-replicate}
 use Rattle.std.proofs.shelf.Parts.{take-putMid-below, drop-putMid, putMid-paste}
 use Rattle.std.proofs.shelf.Tests.{cases-eq, cond-true, cond-false, lt-ltb, le-ltb, ltb-true}
-use Rattle.rules.specs.Lists.{from, Among}
+use Rattle.rules.specs.Lists.{from}
 use Rattle.rules.specs.Rows.{blank-row, is-blank}
-use Rattle.rules.specs.Memory.{Rows, row-at, page-of, pages, erased}
+use Rattle.rules.specs.Memory.{Rows, row-at, pages, erased}
 use Rattle.rules.specs.Media.{row-in, rows-in, Shaped, Outcome, accepted, refused, one-more, reads, programs, erases}
 use Rattle.rules.proofs.MemoryLaws.{erased-length, erased-row}
 

@@ -1,16 +1,16 @@
 -- The check of settings passes the good ones, and no other
-use mathlib.Core.Path.{_≡_, refl, sym, ap, _∙_}
+use mathlib.Core.Path.{_≡_, refl, ap, _∙_}
 use mathlib.Core.Logic.{_⊎_, inl, inr, ⊎-elim}
-use mathlib.Core.Bool.{Bool, true, false, cond, _||_}
+use mathlib.Core.Bool.{cond, _||_}
 use mathlib.Core.Option.{Option, none, some}
-use Prim.Native.Nat.{ℕ, zero, suc, _≤_}
+use Prim.Native.Nat.{ℕ, _≤_}
 use native.Mathlib.Omega.{arith}
-use lib.Dec.{ltb, eqb}
+use lib.Dec.{ltb}
 use Rattle.std.proofs.shelf.Ways.{tells}
 use Rattle.rules.specs.Lists.{when-some}
 use Rattle.rules.specs.Loads.{kg-of}
-use Rattle.rules.specs.Settings.{Settings, Bounds, class-three, class-four, bounds-of, code-of-kg, Within, Passed, Checked, passed, refused, checked}
-use Rattle.rules.specs.Laws.{Asked-for, Check-passes-good-settings}
+use Rattle.rules.specs.Settings.{Settings, Bounds, class-three, class-four, bounds-of, code-of-kg, Within, Checked, passed, refused, checked}
+use Rattle.rules.specs.Laws.{Asked-for}
 
 -- a code that is found is the code of that interval
 code-found : (kg code : ℕ) → code-of-kg kg ≡ some code → (code ≤ 5) × (kg-of code ≡ kg)

@@ -1,5 +1,4 @@
 use mathlib.Core.Path.{_≡_, sym, ap, _∙_}
-use native.Mathlib.Omega.{arith}
 use borrow.Author.Needs.{needs}
 use Rattle.rules.specs.Media.{accepted, row-in}
 use Rattle.rules.proofs.MediaLaws.{reads-inside, reads-outside}

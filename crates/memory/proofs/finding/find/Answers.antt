@@ -1,9 +1,9 @@
-use mathlib.Core.Path.{_≡_, refl, sym, ap, _∙_}
-use mathlib.Core.Option.{Option, none, some}
-use Prim.Native.Nat.{ℕ, _+_, _*_}
+use mathlib.Core.Path.{_≡_, sym, ap, _∙_}
+use mathlib.Core.Option.{none, some}
+use Prim.Native.Nat.{_+_, _*_}
 use native.Mathlib.Omega.{arith}
 use lib.ListN.{length}
-use Rattle.rules.proofs.Memories.{start, start-fits}
+use Rattle.rules.proofs.Memories.{start}
 use Rattle.rules.specs.Lists.{or-else, when-some}
 use Rattle.rules.specs.Memory.{find, find-among}
 use Rattle.rules.specs.Media.{accepted, refused}

@@ -1,13 +1,13 @@
-use mathlib.Core.Path.{_≡_, refl, sym, ap, _∙_}
+use mathlib.Core.Path.{_≡_, sym, ap, _∙_}
 use mathlib.Core.Option.{none}
-use Prim.Native.Nat.{ℕ, _+_, _*_}
+use Prim.Native.Nat.{_+_, _*_}
 use native.Mathlib.Omega.{arith}
 use borrow.Author.Needs.{needs}
 use lib.ListN.{length}
 use Rattle.rules.specs.Lists.{when-some, told}
 use Rattle.rules.specs.Memory.{disorder, disorder-among}
 use Rattle.rules.specs.Media.{accepted, refused}
-use Rattle.rules.proofs.Memories.{start, start-fits}
+use Rattle.rules.proofs.Memories.{start}
 use Rattle.records.specs.Records-of.{record-of}
 use Rattle.memory.specs.Rounds.{disorder-from, order-step}
 use Rattle.memory.specs.Faults.{fault-number, fault-place, outcome}

@@ -1,4 +1,4 @@
-use mathlib.Core.Path.{_≡_, refl, sym, ap, _∙_}
+use mathlib.Core.Path.{sym, _∙_}
 use native.Mathlib.Omega.{arith}
 use Rattle.memory.proofs.PageScans.{any-begin, any-found, any-more, any-none}
 use Rattle.memory.proofs.page.holds_record.Needs as need

@@ -1,9 +1,9 @@
-use mathlib.Core.Path.{_≡_, refl, sym, ap, _∙_}
-use Prim.Native.Nat.{ℕ, _<_, _≤_}
+use mathlib.Core.Path.{sym, ap, _∙_}
+use Prim.Native.Nat.{ℕ, _<_}
 use native.Mathlib.Omega.{arith}
 use lib.ListN.{length}
 use Rattle.rules.specs.Lists.{told}
-use Rattle.memory.specs.Entries.{entry-of, entry-in, better-of}
+use Rattle.memory.specs.Entries.{entry-of, better-of}
 use Rattle.memory.proofs.Scans.{newest-begin, newest-more, newest-end}
 use Rattle.memory.proofs.reading.newest.Needs as need
 

@@ -1,10 +1,7 @@
-use mathlib.Core.Path.{_≡_, refl, sym, ap, ap₂, _∙_}
-use mathlib.Core.List.{[], _++_}
-use Prim.Native.Nat.{ℕ, _*_, _<_, _≤_}
+use mathlib.Core.Path.{_≡_, sym, ap, ap₂, _∙_}
+use mathlib.Core.List.{_++_}
 use native.Mathlib.Omega.{arith}
-use lib.ListN.{length}
-use Rattle.rules.specs.Memory.{pages, newest}
-use Rattle.rules.proofs.Memories.{first-page}
+use Rattle.rules.specs.Memory.{pages}
 use Rattle.memory.specs.Rounds.{place-along}
 use Rattle.memory.specs.Releases.{pages-of}
 use Rattle.memory.proofs.Releases.{along-inside, first-fits, to-erase, erase-begin, erase-stops, erase-goes-on, erase-none}

@@ -1,4 +1,4 @@
-use mathlib.Core.Path.{_≡_, sym, ap, _∙_}
+use mathlib.Core.Path.{sym, ap, _∙_}
 use mathlib.Core.Bool.{_||_}
 use Rattle.rules.specs.Memory.{newest, stops-at}
 use Rattle.memory.specs.Releases.{is-newest-page}

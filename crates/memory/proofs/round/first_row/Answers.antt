@@ -1,5 +1,4 @@
 use mathlib.Core.Path.{sym}
-use Prim.Native.Nat.{ℕ}
 use native.Mathlib.Omega.{arith}
 use Rattle.rules.proofs.Memories.{newest-found}
 use Rattle.memory.proofs.round.first_row.Needs as need

@@ -1,4 +1,4 @@
-use mathlib.Core.Path.{_≡_, sym}
+use mathlib.Core.Path.{sym}
 use Rattle.memory.proofs.Storings.{next-row-takes}
 use Rattle.memory.proofs.storing.append.Needs as need
 

@@ -1,4 +1,4 @@
-use mathlib.Core.Path.{_≡_, sym, ap}
+use mathlib.Core.Path.{sym, ap}
 use mathlib.Core.Bool.{cond, _&&_}
 use mathlib.Core.Option.{none, some}
 use borrow.Author.Tests.{ne-eqb}

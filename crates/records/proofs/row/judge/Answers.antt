@@ -1,8 +1,8 @@
-use mathlib.Core.Path.{_≡_, refl, sym, ap, _∙_}
+use mathlib.Core.Path.{_≡_, sym, ap, _∙_}
 use mathlib.Core.Bool.{Bool, true, false, cond}
 use mathlib.Core.List.{List}
 use mathlib.Core.Option.{Option, none, some}
-use Prim.Native.Nat.{ℕ, _+_, _-_, _/_, _%_, _^_, _<_}
+use Prim.Native.Nat.{ℕ, _-_, _/_, _%_, _^_, _<_}
 use lib.Count.{ones}
 use lib.Dec.{eqb}
 use lib.ListN.{length, getD, replicate}
@@ -10,7 +10,7 @@ use Rattle.std.specs.shelf.Digits.{Under}
 use Rattle.std.proofs.shelf.Elements.{all-from-getD}
 use Rattle.rules.specs.Lists.{when-some, same, number-of, digits-of}
 use Rattle.rules.specs.Records.{Record as The-record}
-use Rattle.rules.specs.Rows.{side-by-side, read-row, is-blank, Verdict, blank, wrong-check, wrong-fields, intact, is-checked, judged}
+use Rattle.rules.specs.Rows.{side-by-side, read-row, is-blank, blank, wrong-check, wrong-fields, intact, is-checked, judged}
 use Rattle.records.specs.declared.fields.Fields.{Fields}
 use Rattle.records.specs.Fields-of.{field-list, Fits-widths, is-record, record-in}
 use Rattle.records.specs.Records-of.{record-of}

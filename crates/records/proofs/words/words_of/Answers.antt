@@ -1,4 +1,3 @@
-use mathlib.Core.Path.{_≡_, ap, _∙_}
 use Prim.Native.Nat.{_<_}
 use Rattle.std.proofs.shelf.Elements.{all-from-getD}
 use Rattle.records.proofs.Bases.{words-are}

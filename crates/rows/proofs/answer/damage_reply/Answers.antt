@@ -1,4 +1,4 @@
-use mathlib.Core.Path.{_≡_, sym, ap, _∙_}
+use mathlib.Core.Path.{sym, ap, _∙_}
 use Rattle.records.specs.declared.row.Verdict.the-variants.{Damaged}
 use Rattle.records.specs.Verdicts.{verdict-of}
 use Rattle.rows.specs.Replies.{verdict-text}

@@ -1,12 +1,11 @@
-use mathlib.Core.Path.{_≡_, sym, ap, _∙_}
+use mathlib.Core.Path.{sym, ap, _∙_}
 use mathlib.Core.Option.{none, some}
-use Prim.Native.Nat.{ℕ, _+_, _*_, _<_}
+use Prim.Native.Nat.{ℕ, _+_, _*_}
 use native.Mathlib.Omega.{arith}
-use borrow.Author.Needs.{needs}
-use lib.ListN.{length, getD, take}
+use lib.ListN.{getD, take}
 use Rattle.std.proofs.shelf.Lists.{length-set}
 use Rattle.rules.specs.Lists.{told}
-use Rattle.rows.specs.Hex.{hex-byte, hex-bytes}
+use Rattle.rows.specs.Hex.{hex-bytes}
 use Rattle.rows.proofs.Pairs.{no-high, no-low, both, no-byte, byte-more, row-of-64, all-read}
 use Rattle.rows.proofs.hex.parse_row.Needs as need
 

@@ -1,13 +1,13 @@
-use mathlib.Core.Path.{_≡_, refl, sym, ap, _∙_}
-use Prim.Native.Nat.{_<_, _+_, _≤_}
+use mathlib.Core.Path.{_≡_, sym, _∙_}
+use Prim.Native.Nat.{_<_, _≤_}
 use native.Mathlib.Omega.{arith}
-use lib.ListN.{length, getD, drop}
-use lib.IntN.{pos, _+ℤ_}
-use mir.Val.{SFits, toZ, ofZ}
+use lib.ListN.{length, getD}
+use lib.IntN.{pos}
+use mir.Val.{toZ, ofZ}
 use mir.Syntax.{w32}
 use borrow.Author.Needs.{needs}
 use Rattle.std.proofs.shelf.Signed.{ints, toZ-ofZ}
-use Rattle.rules.specs.Loads.{sum, highest, lowest}
+use Rattle.rules.specs.Loads.{sum}
 use Rattle.loads.proofs.Extents.{sum-step, sum-end, lowest-step, lowest-end, highest-step, highest-end, lowest-start, highest-start}
 use Rattle.loads.proofs.readings.Extent.of.Needs as need
 

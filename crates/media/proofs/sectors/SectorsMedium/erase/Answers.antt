@@ -1,4 +1,4 @@
-use mathlib.Core.Path.{_≡_, refl, sym, ap, _∙_}
+use mathlib.Core.Path.{refl, sym, ap, _∙_}
 use native.Mathlib.Omega.{arith}
 use Rattle.rules.specs.Media.{rows-in, accepted}
 use Rattle.rules.proofs.MediaLaws.{erase-done, erases-outside, erases-inside}

@@ -1,10 +1,9 @@
-use mathlib.Core.Path.{_≡_, sym, ap, subst, _∙_}
-use Prim.Native.Nat.{ℕ, _+_, _-_, _*_, _/_, _%_, _^_, _<_, _≤_}
+use mathlib.Core.Path.{_≡_}
+use Prim.Native.Nat.{ℕ, _+_, _-_, _*_, _/_, _^_, _<_, _≤_}
 use native.Mathlib.Omega.{arith}
-use native.Mathlib.Nat.{mod-lt}
 use lib.ListN.{getD}
 use lib.Pow.{pow-pos, pow-mono}
-use Rattle.std.proofs.shelf.Bits.{shr-below, mod-below}
+use Rattle.std.proofs.shelf.Bits.{mod-below}
 use Rattle.records.specs.Widths.{width-of}
 use Rattle.records.proofs.Packed-bits.{took-within, took-across, within-fits, beside-fits}
 use Rattle.records.proofs.bits.Reader.take.Needs as need

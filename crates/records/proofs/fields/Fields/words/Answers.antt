@@ -1,7 +1,6 @@
-use mathlib.Core.Path.{_≡_, refl, sym, ap, _∙_}
+use mathlib.Core.Path.{_≡_, ap, _∙_}
 use Prim.Native.Nat.{ℕ, _+_, _*_, _^_}
 use native.Mathlib.Omega.{arith}
-use Rattle.rules.specs.Lists.{number-of}
 use Rattle.rules.specs.Rows.{side-by-side}
 use Rattle.records.specs.Streams.{written}
 use Rattle.records.proofs.fields.Fields.words.Needs as need

@@ -1,6 +1,6 @@
-use mathlib.Core.Path.{_≡_, refl, ap, _∙_}
+use mathlib.Core.Path.{refl}
 use native.Mathlib.Omega.{arith}
-use lib.ListN.{length, take}
+use lib.ListN.{length}
 use Rattle.records.specs.Lines-of.{text-of}
 use Rattle.records.proofs.Writing.{part-written, byte-behind}
 use Rattle.records.proofs.line.Line.characters.Needs as need

@@ -1,6 +1,5 @@
-use mathlib.Core.Path.{_≡_, ap, _∙_}
+use mathlib.Core.Path.{ap, _∙_}
 use native.Mathlib.Omega.{arith}
-use lib.ListN.{length, take}
 use Rattle.rules.specs.Tickets.{decimal}
 use Rattle.rules.proofs.TicketLaws.{decimal-length}
 use Rattle.records.specs.Lines-of.{text-of}

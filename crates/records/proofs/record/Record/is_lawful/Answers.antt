@@ -1,6 +1,6 @@
 use mathlib.Core.Path.{_≡_, sym, ap, _∙_}
-use mathlib.Core.Bool.{Bool, true, false, _&&_}
-use Prim.Native.Nat.{ℕ, _-_, _≤_, _<_, _^_}
+use mathlib.Core.Bool.{Bool, _&&_}
+use Prim.Native.Nat.{ℕ, _-_, _<_, _^_}
 use borrow.Author.Needs.{needs}
 use Rattle.rules.specs.Records.{lawful, lawful-tare}
 use Rattle.loads.specs.Intervals-of.{interval-code}

@@ -1,7 +1,6 @@
-use mathlib.Core.Path.{_≡_, refl, sym, ap, _∙_}
-use mathlib.Core.List.{List, [], _∷_}
+use mathlib.Core.Path.{_∙_}
 use Prim.Native.Nat.{ℕ, _*_}
-use Rattle.rules.specs.Tickets.{decimal, parted, ticket}
+use Rattle.rules.specs.Tickets.{decimal, ticket}
 use Rattle.records.specs.Lines-of.{text-of}
 use Rattle.records.proofs.Writing.{eleven}
 use Rattle.records.proofs.record.Record.line.Needs as need
