@@ -2,13 +2,14 @@
 use mathlib.Core.Path.{_≡_, refl, sym, ap, ap₂, subst, _∙_}
 use mathlib.Core.Bool.{Bool, true, false, cond}
 use mathlib.Core.Logic.{inl, inr}
+use mathlib.Core.Option.{none, some}
 use mathlib.Core.List.{List, [], _∷_, _++_, map, append-nil, append-assoc}
 use Prim.Native.Nat.{ℕ, zero, suc, _+_, _-_, _*_, _%_, _^_, _<_, _≤_}
 use native.Mathlib.Omega.{arith}
 use lib.Dec.{ltb}
 use lib.ListN.{length, getD, set, take}
 use Rattle.std.proofs.shelf.Lists.{getD-take, length-take-le, take-more}
-use Rattle.std.proofs.shelf.Tests.{ltb-true, ltb-false, lt-ltb}
+use Rattle.std.proofs.shelf.Tests.{ltb-true, ltb-false, lt-ltb, le-ltb}
 use Rattle.rules.specs.Lists.{Among, joined}
 use Rattle.rules.specs.Rows.{blank-row}
 use Rattle.rules.specs.Media.{Outcome, accepted, refused, erases, one-more}
@@ -17,7 +18,7 @@ use Rattle.rules.proofs.Rounds.{pages-append, turn-among}
 use Rattle.rules.proofs.Erasing.{blanked-length}
 use Rattle.rules.proofs.Memories.{first-page, round-is, start-fits}
 use Rattle.memory.specs.Rounds.{place-along}
-use Rattle.memory.specs.Releases.{releases}
+use Rattle.memory.specs.Releases.{page-at, releases}
 use Rattle.memory.proofs.Turns.{left, left-more, left-none, turn-is-left}
 
 -- a place along a round lies within it
@@ -161,3 +162,16 @@ release-done before rows day start writes list len i all room ends left counted 
     ap (λ ps. (length ps, erased before ps, (start + length ps) % 2 ^ 32)) (sym all)
     ∙ (ap (λ n. (n, erased before (take len list), (start + n) % 2 ^ 32)) (length-take-le len list room)
     ∙ ap₂ (λ r w. (len, r, w)) (sym (left ∙ ap (λ n. erased before (take n list)) ends)) (sym (counted ∙ ap (λ n. (start + n) % 2 ^ 32) ends)))
+
+-- ---- The i-th page
+
+module _ (list : List ℕ) (len i : ℕ) (room : len ≤ length list) where
+  size : length (take len list) ≡ len
+  size = length-take-le len list room
+
+  pub page-there : i < len → page-at (take len list) i ≡ some (getD list i 0)
+  page-there h =
+      ap (λ t. cond t (some (getD (take len list) i 0)) none) (lt-ltb i (length (take len list)) (omega (arith, size, h))) ∙ ap some (getD-take len list i 0 h)
+
+  pub page-missing : len ≤ i → page-at (take len list) i ≡ none
+  page-missing h = ap (λ t. cond t (some (getD (take len list) i 0)) none) (le-ltb i (length (take len list)) (omega (arith, size, h)))

@@ -1,10 +1,10 @@
 -- Pages in the order of a release, and what a release does
-use mathlib.Core.Bool.{Bool, false}
+use mathlib.Core.Bool.{Bool, false, cond}
 use mathlib.Core.List.{List}
-use mathlib.Core.Option.{Option}
+use mathlib.Core.Option.{Option, none, some}
 use Prim.Native.Nat.{ℕ, _+_, _%_, _^_}
-use lib.Dec.{leb, eqb}
-use lib.ListN.{length, take}
+use lib.Dec.{leb, ltb, eqb}
+use lib.ListN.{length, getD, take}
 use Rattle.rules.specs.Lists.{when-some}
 use Rattle.rules.specs.Records.{Record}
 use Rattle.rules.specs.Memory.{Rows, page-of, released-pages, erased}
@@ -12,6 +12,10 @@ use Rattle.memory.specs.declared.pages.Pages.{Pages}
 
 abbrev pub pages-of : Pages → List ℕ
 pages-of p = take (p .len) (p .list)
+
+-- the i-th of the pages
+abbrev pub page-at : List ℕ → ℕ → Option ℕ
+page-at ps i = cond (ltb i (length ps)) (some (getD ps i 0)) none
 
 -- the record is of the day or later
 abbrev pub is-dated : (day : ℕ) → Option (ℕ × Record) → Bool

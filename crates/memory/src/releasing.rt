@@ -8,7 +8,7 @@ ghost use Rattle.rules.specs.Lists.{told};
 ghost use Rattle.rules.specs.Memory.{pages, rows-of, all-blank, newest as newest-of, stops-at, released-pages};
 ghost use Rattle.rules.proofs.Memories.{first-page};
 ghost use Rattle.memory.specs.Entries.{entry-of};
-ghost use Rattle.memory.specs.Releases.{pages-of, is-newest-page, releases};
+ghost use Rattle.memory.specs.Releases.{pages-of, page-at, is-newest-page, releases};
 use crate::entry::Entry;
 use crate::page::all_blank;
 use crate::page::dated_from;
@@ -38,6 +38,19 @@ impl Pages {
         let Pages { mut list, len } = self;
         list[len] = page;
         Pages { list, len: len + 1 }
+    }
+}
+
+impl Pages {
+    /// The i-th of the pages, from 0 on; none where there are not so many.
+    pub fn page(self, i: usize) -> Option<usize>
+        ensures { λ r. ⌜ told (λ p. p) r ≡ page-at (pages-of self) i ⌝ }
+    {
+        if i < self.len {
+            Some(self.list[i])
+        } else {
+            None
+        }
     }
 }
 
