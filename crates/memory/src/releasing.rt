@@ -18,6 +18,17 @@ use crate::round::place_along;
 use media::Medium;
 
 impl Pages {
+    /// The i-th of the pages, from 0 on; none where there are not so many.
+    pub fn page(self, i: usize) -> Option<usize>
+        ensures { λ r. ⌜ told (λ p. p) r ≡ page-at (pages-of self) i ⌝ }
+    {
+        if i < self.len {
+            Some(self.list[i])
+        } else {
+            None
+        }
+    }
+
     /// No page.
     pub(crate) fn none() -> Pages
         ensures pages { λ r. ⌜ pages-of r ≡ [] ⌝ }
@@ -38,19 +49,6 @@ impl Pages {
         let Pages { mut list, len } = self;
         list[len] = page;
         Pages { list, len: len + 1 }
-    }
-}
-
-impl Pages {
-    /// The i-th of the pages, from 0 on; none where there are not so many.
-    pub fn page(self, i: usize) -> Option<usize>
-        ensures { λ r. ⌜ told (λ p. p) r ≡ page-at (pages-of self) i ⌝ }
-    {
-        if i < self.len {
-            Some(self.list[i])
-        } else {
-            None
-        }
     }
 }
 
