@@ -67,13 +67,16 @@ damage-not-blank Fields = refl
 
 -- ---- Reads that are refused
 
+pub not-both : (number place : ℕ) → accepted ≡ refused number place → ⊥
+not-both number place z = let y : _≡_ {A = ℕ} 0 1 = cc in omega arith
+
 -- a read that was refused asked for a row past the end, which holds no record
 pub refused-holds-none : (rows : Rows) (row number place : ℕ) (out got : List ℕ) → reads rows row out ≡ (refused number place, got) → read-row (row-at rows row) ≡ none
 refused-holds-none rows row number place out got e = at (ltb row (length rows)) refl e
   where
     at : (b : Bool) → ltb row (length rows) ≡ b → _≡_ {A = Outcome × List ℕ} (cond b (accepted, row-at rows row) (refused 2 row, out)) (refused number place, got)
         → read-row (row-at rows row) ≡ none
-    at true is e = absurd (let z : accepted ≡ refused number place = ap (λ x. x .0) e in let y : _≡_ {A = ℕ} 0 1 = cc in omega arith)
+    at true is e = absurd (not-both number place (ap (λ x. x .0) e))
     at false is e = ap read-row (getD-past rows row [] (ltb-false row (length rows) is)) ∙ nothing-reads-none
 
 pub damage-holds-none : (d : Damage) → found-in (verdict-of (Damaged d)) ≡ none

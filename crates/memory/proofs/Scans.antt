@@ -69,9 +69,6 @@ scan-more rows i is = ap largest (intact-next rows i is) ∙ by (entry-in rows i
     by (some x) = largest-more x (intact-in rows is)
 
 module _ (rows : Rows) where
-  abbrev pub rest : ℕ → Option (ℕ × Record)
-  rest i = largest (intact-in rows (from i (length rows - i)))
-
   pub newest-begin : newest rows ≡ better-of none (largest (intact-in rows (from 0 (length rows - 0))))
   unfolding newest
   newest-begin = let all : length rows ≡ length rows - 0 = omega arith in ap (λ n. largest (intact-in rows (from 0 n))) all

@@ -4,7 +4,6 @@ use mathlib.Core.Bool.{true}
 use mathlib.Core.List.{List}
 use mathlib.Core.Option.{some}
 use Prim.Native.Nat.{ℕ, _*_}
-use native.Mathlib.Omega.{arith}
 use lib.ListN.{length, set}
 use Rattle.rules.specs.Rows.{is-blank}
 use Rattle.rules.specs.Memory.{Rows, row-at, next-row}
@@ -12,6 +11,7 @@ use Rattle.rules.specs.Media.{accepted, refused, programs}
 use Rattle.rules.proofs.BlankRows.{blank-row-is-blank}
 use Rattle.rules.proofs.MediaLaws.{programs-blank}
 use Rattle.rules.proofs.Places.{next-row-is}
+use Rattle.memory.proofs.Judged.{not-both}
 
 -- a program of the next row is never refused
 pub next-row-takes :
@@ -21,6 +21,4 @@ next-row-takes rows count whole row writes packed left number place then e refus
     let at = next-row-is rows count whole row e in
     let ones : is-blank (row-at rows row) ≡ true = blank-row-is-blank (row-at rows row) (at .blank) in
     let taken = programs-blank rows writes row packed (set rows row packed) (at .inside) ones refl in
-    let z : accepted ≡ refused number place = ap (λ p. p .0) (sym taken ∙ refusal) in
-    let y : _≡_ {A = ℕ} 0 1 = cc in
-    omega arith
+    not-both number place (ap (λ p. p .0) (sym taken ∙ refusal))

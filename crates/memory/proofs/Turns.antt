@@ -17,6 +17,7 @@ use Rattle.rules.proofs.Rounds.{turn}
 use Rattle.rules.proofs.Memories.{start, start-fits, round-rows}
 use Rattle.memory.specs.Entries.{entry-in}
 use Rattle.memory.specs.Rounds.{place-along, if-numbered, may-follow, disorder-from, order-step}
+use Rattle.memory.proofs.Judged.{not-both}
 use Rattle.memory.proofs.Scans.{from-more, from-none, intact-next}
 
 module _ (first count : ℕ) where
@@ -113,18 +114,18 @@ order-goes-on last kept (some x) xs e = at (may-follow last (x .1)) refl e
     at : (t : Bool) → may-follow last (x .1) ≡ t → _≡_ {A = Outcome × Option Record} (accepted, kept) (cond t (accepted, some (x .1)) (refused 21 (x .0), none))
         → disorder-from last (x ∷ xs) ≡ disorder-from kept xs
     at true is e = order-more last x xs ∙ ap (λ t. cond t (disorder-from (some (x .1)) xs) (some (x .0))) is ∙ ap (λ o. disorder-from o xs) (sym (ap (λ p. p .1) e))
-    at false is e = absurd (let z : accepted ≡ refused 21 (x .0) = ap (λ p. p .0) e in let y : _≡_ {A = ℕ} 0 1 = cc in omega arith)
+    at false is e = absurd (not-both 21 (x .0) (ap (λ p. p .0) e))
 
 pub order-breaks :
     (last kept : Option Record) (next : Option (ℕ × Record)) (xs : List (ℕ × Record)) (number place : ℕ) → (refused number place, kept) ≡ order-step last next
     → refused number place ≡ when-some (disorder-from last (when-some next xs (λ x. x ∷ xs))) accepted (refused 21)
-order-breaks last kept none xs number place e = absurd (let z : accepted ≡ refused number place = sym (ap (λ p. p .0) e) in let y : _≡_ {A = ℕ} 0 1 = cc in omega arith)
+order-breaks last kept none xs number place e = absurd (not-both number place (sym (ap (λ p. p .0) e)))
 order-breaks last kept (some x) xs number place e = at (may-follow last (x .1)) refl e
   where
     at : (t : Bool) → may-follow last (x .1) ≡ t
         → _≡_ {A = Outcome × Option Record} (refused number place, kept) (cond t (accepted, some (x .1)) (refused 21 (x .0), none))
         → refused number place ≡ when-some (disorder-from last (x ∷ xs)) accepted (refused 21)
-    at true is e = absurd (let z : accepted ≡ refused number place = sym (ap (λ p. p .0) e) in let y : _≡_ {A = ℕ} 0 1 = cc in omega arith)
+    at true is e = absurd (not-both number place (sym (ap (λ p. p .0) e)))
     at false is e =
         ap (λ p. p .0) e
         ∙ sym (ap (λ o. when-some o accepted (refused 21)) (order-more last x xs ∙ ap (λ t. cond t (disorder-from (some (x .1)) xs) (some (x .0))) is))

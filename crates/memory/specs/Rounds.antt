@@ -9,7 +9,7 @@ use Rattle.rules.specs.Records.{Record, earlier}
 use Rattle.rules.specs.Memory.{Rows, pages, disorder-among, disorder-after, free-in, holds-record}
 use Rattle.rules.specs.Media.{Outcome, accepted, refused}
 
--- the row after k others in a round of so many rows that starts with the first
+-- the row or page after k others in a round of so many that starts with the first
 abbrev pub place-along : (first count k : ℕ) → ℕ
 place-along first count k = cond (ltb (first + k) count) (first + k) (first + k - count)
 

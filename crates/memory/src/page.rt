@@ -1,4 +1,4 @@
-//! One page of a memory: its free row, and whether it holds a record.
+//! One page of a memory: its free row, whether it holds a record or one from a day on, and whether it is blank.
 
 ghost use mathlib.Core.Path.{_≡_};
 ghost use mathlib.Core.Bool.{cond};
