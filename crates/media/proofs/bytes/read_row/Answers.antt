@@ -8,5 +8,5 @@ returns-then-row-bytes c = reads_outside c.args.bytes.now c.args.row c.args.out.
 
 pub returns : goal.returns
 returns c =
-    let part : c.copy-from-slice.new.self ≡ row_in c.args.bytes.now c.args.row = search rules in
+    let part : c.copy_from_slice.new.self ≡ row_in c.args.bytes.now c.args.row = search rules in
     reads_inside c.args.bytes.now c.args.row c.args.out.now c.if-row-bytes.false ∙ ap (λ x. (accepted, x)) (sym part)

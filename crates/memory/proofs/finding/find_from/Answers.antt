@@ -8,8 +8,8 @@ use Rattle.memory.specs.Rounds.{if_numbered}
 use Rattle.memory.proofs.Turns.{asks_within, records_left, records_begin, records_none, find_step, nothing_found}
 use Rattle.memory.proofs.finding.find_from.Goals as goal
 
-pub place-along-requires : goal.place-along-requires
-place-along-requires g c =
+pub place_along-requires : goal.place_along-requires
+place_along-requires g c =
     let m = c.args.m.now in
     asks_within (g.M.Medium.rows m) (g.M.Medium.shape m) _ _ c.loop-k.k c.size-count.ensures c.requires c.loop-k-test.true
 
@@ -25,7 +25,7 @@ loop-k-preserved g c =
     let rows = g.M.Medium.rows c.args.m.now in
     let size : length rows ≡ c.size-count.result * 16 = omega (arith, c.size-count.ensures) in
     let step = find_step rows _ _ c.loop-k.k _ size c.requires c.place_along.ensures c.loop-k-test.true c.args.number in
-    let miss = c.in-None.ensures ∙ ap (if_numbered c.args.number) c.entry-at-next.ensures in
+    let miss = c.in-None.ensures ∙ ap (if_numbered c.args.number) c.entry_at-next.ensures in
     c.loop-k.invariant ∙ step ∙ ap (λ o. or_else o (find_among c.args.number (records_left rows (start rows) (c.loop-k.k + 1)))) (sym miss)
 
 pub returns-in-Some : goal.returns-in-Some
@@ -33,7 +33,7 @@ returns-in-Some g c =
     let rows = g.M.Medium.rows c.args.m.now in
     let size : length rows ≡ c.size-count.result * 16 = omega (arith, c.size-count.ensures) in
     let step = find_step rows _ _ c.loop-k.k _ size c.requires c.place_along.ensures c.loop-k-test.true c.args.number in
-    let hit = c.in-Some.ensures ∙ ap (if_numbered c.args.number) c.entry-at-next.ensures in
+    let hit = c.in-Some.ensures ∙ ap (if_numbered c.args.number) c.entry_at-next.ensures in
     ap (λ o. when_some o (refused 26 0, none) (λ r. (accepted, some r)))
     (c.loop-k.invariant ∙ step ∙ ap (λ o. or_else o (find_among c.args.number (records_left rows (start rows) (c.loop-k.k + 1)))) (sym hit))
 

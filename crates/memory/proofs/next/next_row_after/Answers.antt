@@ -4,8 +4,8 @@ use Rattle.memory.specs.Entries.{entry_of}
 use Rattle.memory.proofs.NextRows.{next_empty, next_found, page_inside}
 use Rattle.memory.proofs.next.next_row_after.Goals as goal
 
-pub next-after-requires : goal.next-after-requires
-next-after-requires g c =
+pub next_after-requires : goal.next_after-requires
+next_after-requires g c =
     let shape = g.M.Medium.shape c.args.m.now in
     let some_pages : 1 ≤ shape.pages = omega (arith, shape.least) in
     page_inside (g.M.Medium.rows c.args.m.now) shape.pages shape.whole some_pages _ _ (sym c.requires ∙ ap (told entry_of) c.in-Some.is)

@@ -7,10 +7,10 @@ use Rattle.memory.proofs.page.dated_from.Goals as goal
 pub loop-i-init : goal.loop-i-init
 loop-i-init g c = dated_begin (g.M.Medium.rows c.args.m.now) c.args.page c.args.day
 
-pub returns-then-is-dated : goal.returns-then-is-dated
-returns-then-is-dated g c =
+pub returns-then-is_dated : goal.returns-then-is_dated
+returns-then-is_dated g c =
     let rows = g.M.Medium.rows c.args.m.now in
-    let dated = sym (c.is_dated.ensures ∙ ap (is_dated c.args.day) c.entry-at.ensures) ∙ c.if-is-dated.true in
+    let dated = sym (c.is_dated.ensures ∙ ap (is_dated c.args.day) c.entry_at.ensures) ∙ c.if-is_dated.true in
     sym
     (c.loop-i.invariant
     ∙ dated_more rows c.args.page c.args.day c.loop-i.i c.loop-i-test.true
@@ -19,7 +19,7 @@ returns-then-is-dated g c =
 pub loop-i-preserved : goal.loop-i-preserved
 loop-i-preserved g c =
     let rows = g.M.Medium.rows c.args.m.now in
-    let older = sym (c.is_dated.ensures ∙ ap (is_dated c.args.day) c.entry-at.ensures) ∙ c.if-is-dated.false in
+    let older = sym (c.is_dated.ensures ∙ ap (is_dated c.args.day) c.entry_at.ensures) ∙ c.if-is_dated.false in
     c.loop-i.invariant
     ∙ dated_more rows c.args.page c.args.day c.loop-i.i c.loop-i-test.true
     ∙ ap (λ b. b || dated_from c.args.day (intact_in rows (page_left rows c.args.page (c.loop-i.i + 1)))) older

@@ -16,10 +16,10 @@ loop-i-preserved g c =
     let i = c.loop-i.i - 1 in
     c.loop-i.invariant
     ∙ free_more rows page i c.loop-i.i (omega arith)
-    ∙ ap (λ b. cond b (after_nonblank rows (page * 16) (from (page * 16) i)) (page * 16 + i + 1)) (sym c.is-blank-at.ensures ∙ c.if-not-is-blank-at.false)
+    ∙ ap (λ b. cond b (after_nonblank rows (page * 16) (from (page * 16) i)) (page * 16 + i + 1)) (sym c.is_blank_at.ensures ∙ c.if-not-is_blank_at.false)
 
-pub returns-then-not-is-blank-at : goal.returns-then-not-is-blank-at
-returns-then-not-is-blank-at g c =
+pub returns-then-not-is_blank_at : goal.returns-then-not-is_blank_at
+returns-then-not-is_blank_at g c =
     let rows = g.M.Medium.rows c.args.m.now in
     let page = c.args.page in
     let i = c.loop-i.i - 1 in
@@ -27,7 +27,7 @@ returns-then-not-is-blank-at g c =
     ∙ sym (free_is rows page (page * 16 + i + 1)
     (c.loop-i.invariant
     ∙ free_more rows page i c.loop-i.i (omega arith)
-    ∙ ap (λ b. cond b (after_nonblank rows (page * 16) (from (page * 16) i)) (page * 16 + i + 1)) (sym c.is-blank-at.ensures ∙ c.if-not-is-blank-at.true)))
+    ∙ ap (λ b. cond b (after_nonblank rows (page * 16) (from (page * 16) i)) (page * 16 + i + 1)) (sym c.is_blank_at.ensures ∙ c.if-not-is_blank_at.true)))
 
 pub returns : goal.returns
 returns g c =

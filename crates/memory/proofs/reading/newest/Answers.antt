@@ -14,7 +14,7 @@ loop-row-preserved g c =
     let inside : i < length rows = omega (arith, c.size-row-end.ensures) in
     c.loop-row.invariant
     ∙ newest_more rows i (told entry_of c.loop-row.best) (told entry_of c.better-best.result) inside
-    (c.better-best.ensures ∙ ap (better_of (told entry_of c.loop-row.best)) c.entry-at.ensures)
+    (c.better-best.ensures ∙ ap (better_of (told entry_of c.loop-row.best)) c.entry_at.ensures)
 
 pub returns : goal.returns
 returns g c =

@@ -10,23 +10,23 @@ pub loop-i-preserved : goal.loop-i-preserved
 loop-i-preserved g c =
     let before = g.M.Medium.rows c.args.m.now in
     let shape = g.M.Medium.shape c.args.m.now in
-    let found = c.released-pages-found.result in
+    let found = c.released_pages-found.result in
     let size : length found.list ≡ 64 = search rules in
     let room : found.len ≤ length found.list = omega (arith, found.within, size) in
-    let step = release_step before c.args.day shape.pages shape.whole found.list found.len c.loop-i.i c.released-pages-found.ensures c.loop-i-test.true room
+    let step = release_step before c.args.day shape.pages shape.whole found.list found.len c.loop-i.i c.released_pages-found.ensures c.loop-i-test.true room
     _ _ (g.M.Medium.count c.args.m.now) _ _ _ c.loop-i.invariant.0 c.loop-i.invariant.1 c.erase.ensures.says in
     (step.0, step.1, c.erase.ensures.lender ∙ c.loop-i.invariant.2)
 
 pub returns : goal.returns
 returns g c =
     let before = g.M.Medium.rows c.args.m.now in
-    let found = c.released-pages-found.result in
+    let found = c.released_pages-found.result in
     let size : length found.list ≡ 64 = search rules in
     let room : found.len ≤ length found.list = omega (arith, found.within, size) in
     let ends : c.loop-i.i ≡ found.len = omega arith in
     record {
       says =
-          release_done before _ c.args.day (g.M.Medium.count c.args.m.now) _ found.list found.len c.loop-i.i c.released-pages-found.ensures room ends c.loop-i.invariant.0
+          release_done before _ c.args.day (g.M.Medium.count c.args.m.now) _ found.list found.len c.loop-i.i c.released_pages-found.ensures room ends c.loop-i.invariant.0
           c.loop-i.invariant.1;
       lender = c.loop-i.invariant.2;
     }

@@ -6,37 +6,37 @@ use Rattle.memory.specs.Stores.{follows, store_told}
 use Rattle.memory.proofs.Storings.{checked, store_refuses, store_goes_on}
 use Rattle.memory.proofs.storing.store.Goals as goal
 
-pub returns-in-err-weighed : goal.returns-in-err-weighed
-returns-in-err-weighed g c =
+pub returns-in_err-weighed : goal.returns-in_err-weighed
+returns-in_err-weighed g c =
     let m = c.args.m.now in
-    let passed = checked (g.M.Medium.rows m) _ c.in-ok-latest.ensures in
-    let fault = c.in-err-weighed.field-0.0 in
-    let same : store_told c.from-residual-in-err-weighed.result ≡ refuses (fault_number fault) (fault_place fault) = search rules in
-    let next = ap (λ o. follows o (weighing_of c.args.weighing)) (sym passed.1) ∙ c.in-err-weighed.ensures.says in
+    let passed = checked (g.M.Medium.rows m) _ c.in_ok-latest.ensures in
+    let fault = c.in_err-weighed.field-0.0 in
+    let same : store_told c.from_residual-in_err-weighed.result ≡ refuses (fault_number fault) (fault_place fault) = search rules in
+    let next = ap (λ o. follows o (weighing_of c.args.weighing)) (sym passed.1) ∙ c.in_err-weighed.ensures.says in
     record {
       says = store_refuses (g.M.Medium.rows m) (g.M.Medium.count m) (weighing_of c.args.weighing) _ _ _ passed.0 next ∙ ap (λ a. (a, (g.M.Medium.rows m, g.M.Medium.count m))) (sym same);
       lender = refl;
     }
 
-pub returns-in-default : goal.returns-in-default
-returns-in-default g c =
+pub returns-in_default : goal.returns-in_default
+returns-in_default g c =
     let m = c.args.m.now in
-    let passed = checked (g.M.Medium.rows m) _ c.in-ok-latest.ensures in
-    let next = ap (λ o. follows o (weighing_of c.args.weighing)) (sym passed.1) ∙ c.in-ok-weighed.ensures.says in
+    let passed = checked (g.M.Medium.rows m) _ c.in_ok-latest.ensures in
+    let next = ap (λ o. follows o (weighing_of c.args.weighing)) (sym passed.1) ∙ c.in_ok-weighed.ensures.says in
     record {
-      says = store_goes_on (g.M.Medium.rows m) (g.M.Medium.count m) (weighing_of c.args.weighing) _ _ passed.0 next (sym c.in-default.ensures);
+      says = store_goes_on (g.M.Medium.rows m) (g.M.Medium.count m) (weighing_of c.args.weighing) _ _ passed.0 next (sym c.in_default.ensures);
       lender = refl;
     }
 
 pub returns : goal.returns
 returns g c =
     let m = c.args.m.now in
-    let passed = checked (g.M.Medium.rows m) _ c.in-ok-latest.ensures in
-    let next = ap (λ o. follows o (weighing_of c.args.weighing)) (sym passed.1) ∙ c.in-ok-weighed.ensures.says in
-    let written = c.in-ok-write.ensures in
+    let passed = checked (g.M.Medium.rows m) _ c.in_ok-latest.ensures in
+    let next = ap (λ o. follows o (weighing_of c.args.weighing)) (sym passed.1) ∙ c.in_ok-weighed.ensures.says in
+    let written = c.in_ok-write.ensures in
     record {
       says =
           store_goes_on (g.M.Medium.rows m) (g.M.Medium.count m) (weighing_of c.args.weighing) _ _ passed.0 next (sym c.in-Some.ensures)
-          ∙ ap (λ p. (gives c.in-ok-weighed.weighed.number, (p.1, p.2))) written.says;
+          ∙ ap (λ p. (gives c.in_ok-weighed.weighed.number, (p.1, p.2))) written.says;
       lender = written.lender;
     }

@@ -9,15 +9,15 @@ use Rattle.player.proofs.whole.begin_and_play.Goals as goal
 pub returns-in-Ok : goal.returns-in-Ok
 returns-in-Ok c =
     let all = ap (λ z. vec_items c.loop-item.out ++ z) (sym (writes_line _ _ _ _ _ _ _ _ _ c.in-Some.ensures.item c.in-Ok.ensures.says)) ∙ c.loop-item.invariant in
-    subst (λ z. IfOk c.play-kind.result (λ _. vec_items c.play-kind.new.out ≡ z)) all c.play-kind.ensures
+    subst (λ z. IfOk c.play_kind.result (λ _. vec_items c.play_kind.new.out ≡ z)) all c.play_kind.ensures
 
 pub loop-item-preserved : goal.loop-item-preserved
 loop-item-preserved c =
-    let rest = writes_from unopened (standing c.next-item.new.self).0 (standing c.next-item.new.self).1 in
-    ap (λ z. z ++ rest) c.in-ok-write-reply.ensures ∙ append_assoc (vec_items c.loop-item.out) (bytes_of c.in-Err.reply) rest
+    let rest = writes_from unopened (standing c.next_item.new.self).0 (standing c.next_item.new.self).1 in
+    ap (λ z. z ++ rest) c.in_ok-write_reply.ensures ∙ append_assoc (vec_items c.loop-item.out) (bytes_of c.in-Err.reply) rest
     ∙ ap (λ z. vec_items c.loop-item.out ++ z) (sym (writes_line _ _ _ _ _ _ _ _ _ c.in-Some.ensures.item c.in-Err.ensures.says)) ∙ c.loop-item.invariant
 
 pub returns : goal.returns
 returns c =
-    let end = writes_no_more _ _ _ _ unopened c.in-default.ensures.item in
+    let end = writes_no_more _ _ _ _ unopened c.in_default.ensures.item in
     sym (append-nil (vec_items c.loop-item.out)) ∙ ap (λ z. vec_items c.loop-item.out ++ z) (sym end) ∙ c.loop-item.invariant

@@ -14,5 +14,5 @@ returns g c =
     let begun : playing g.M.Medium.rows g.M.Medium.count c.open-player.result ≡ opened c.args.settings =
     c.open-player.ensures none ∙ ap (λ w. running s (acts (opening s) w).1) (blank_world _ _ c.requires.0 c.requires.1) in
     subst
-    (λ z. IfOk c.play-all.result (λ _. vec_items c.play-all.new.out ≡ vec_items c.args.out.now ++ writes_from z (standing c.args.reader.now).0 (standing c.args.reader.now).1))
-    begun c.play-all.ensures
+    (λ z. IfOk c.play_all.result (λ _. vec_items c.play_all.new.out ≡ vec_items c.args.out.now ++ writes_from z (standing c.args.reader.now).0 (standing c.args.reader.now).1))
+    begun c.play_all.ensures

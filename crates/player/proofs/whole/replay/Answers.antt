@@ -7,5 +7,5 @@ pub returns : goal.returns
 unfolding trace_writes
 returns c =
     let lines = standing c.over-reader.result in
-    c.in-ok-begin-and-play.ensures ∙ ap (λ z. z ++ writes_from unopened lines.0 lines.1) c.new-out.ensures.items
+    c.in_ok-begin_and_play.ensures ∙ ap (λ z. z ++ writes_from unopened lines.0 lines.1) c.new-out.ensures.items
     ∙ ap (λ p. writes_from unopened p.0 p.1) c.over-reader.ensures.standing

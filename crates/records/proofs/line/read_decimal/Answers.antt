@@ -22,13 +22,13 @@ returns-then-byte-lt48 c =
     ] in
     sym (ap (λ b. cond b (some (digits_number text)) none) (c.loop-byte.invariant.2 ∙ bad))
 
-pub overflow-mul-number : goal.overflow-mul-number
-overflow-mul-number c =
+pub overflow_mul-number : goal.overflow_mul-number
+overflow_mul-number c =
     let i : ℕ = c.loop-byte.byte-index in
     omega (arith, few_digits (i + 1) 19 (omega arith), digit_room i c.loop-byte.number 0 (omega arith) c.loop-byte.invariant.1)
 
-pub overflow-add-number : goal.overflow-add-number
-overflow-add-number c =
+pub overflow_add-number : goal.overflow_add-number
+overflow_add-number c =
     let i : ℕ = c.loop-byte.byte-index in
     omega (arith, few_digits (i + 1) 19 (omega arith), digit_room i c.loop-byte.number c.from.result (omega arith) c.loop-byte.invariant.1)
 

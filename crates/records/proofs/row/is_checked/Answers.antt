@@ -11,5 +11,5 @@ returns c =
     let n : ℕ = number_of (2 ^ 64) 0 ws in
     let size : length ws ≡ 4 = search rules in
     let last : n % 256 ≡ get_or ws 3 0 % 256 = ap (λ l. number_of (2 ^ 64) 0 l % 256) (spread ws size) ∙ check_of_words (get_or ws 0 0) (get_or ws 1 0) (get_or ws 2 0) (get_or ws 3 0) in
-    let count : c.zero-bits.result ≡ 248 - ones (n / 256) = omega (arith, c.zero-bits.ensures) in
-    ap (λ x. eqb x c.zero-bits.result) (and_mask (get_or ws 3 0) 8 ∙ sym last) ∙ ap (eqb (n % 256)) count
+    let count : c.zero_bits.result ≡ 248 - ones (n / 256) = omega (arith, c.zero_bits.ensures) in
+    ap (λ x. eqb x c.zero_bits.result) (and_mask (get_or ws 3 0) 8 ∙ sym last) ∙ ap (eqb (n % 256)) count

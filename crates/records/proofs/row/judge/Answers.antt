@@ -33,30 +33,30 @@ module _ (row words : List ℕ) (size : length row ≡ 32) (fits : (i : ℕ) →
       sym (judged_fields row not_blank checked
       ∙ ap (λ o. when_some o wrong_fields intact) (read_by_fields row size (bytes row words size fits words_are) f (body ∙ ap (λ n. n / 256) (number_is row words size fits words_are)) fit checked ∙ sym e))
 
-pub returns-then-are-ones : goal.returns-then-are-ones
-returns-then-are-ones c =
+pub returns-then-are_ones : goal.returns-then-are_ones
+returns-then-are_ones c =
     let row = c.args.row.now in
-    sym (judged_blank row (looks_blank row c.words-of-words.result c.told-row c.fits-row c.words-of-words.ensures c.are-ones.result true c.are-ones.ensures c.if-are-ones.true))
+    sym (judged_blank row (looks_blank row c.words_of-words.result c.told-row c.fits-row c.words_of-words.ensures c.are_ones.result true c.are_ones.ensures c.if-are_ones.true))
 
-pub returns-then-not-is-checked : goal.returns-then-not-is-checked
-returns-then-not-is-checked c =
+pub returns-then-not-is_checked : goal.returns-then-not-is_checked
+returns-then-not-is_checked c =
     let row = c.args.row.now in
     sym (judged_check row
-    (looks_blank row c.words-of-words.result c.told-row c.fits-row c.words-of-words.ensures c.are-ones.result false c.are-ones.ensures c.if-are-ones.false)
-    (looks_checked row c.words-of-words.result c.told-row c.fits-row c.words-of-words.ensures c.is_checked.result false c.is_checked.ensures c.if-not-is-checked.true))
+    (looks_blank row c.words_of-words.result c.told-row c.fits-row c.words_of-words.ensures c.are_ones.result false c.are_ones.ensures c.if-are_ones.false)
+    (looks_checked row c.words_of-words.result c.told-row c.fits-row c.words_of-words.ensures c.is_checked.result false c.is_checked.ensures c.if-not-is_checked.true))
 
 pub returns-in-Some : goal.returns-in-Some
 returns-in-Some c =
     let row = c.args.row.now in
-    fields_say row c.words-of-words.result c.told-row c.fits-row c.words-of-words.ensures c.read.result c.read.ensures.body c.read.ensures.fit
+    fields_say row c.words_of-words.result c.told-row c.fits-row c.words_of-words.ensures c.read.result c.read.ensures.body c.read.ensures.fit
     (some (record_of c.in-Some.found)) c.in-Some.ensures
-    (looks_blank row c.words-of-words.result c.told-row c.fits-row c.words-of-words.ensures c.are-ones.result false c.are-ones.ensures c.if-are-ones.false)
-    (looks_checked row c.words-of-words.result c.told-row c.fits-row c.words-of-words.ensures c.is_checked.result true c.is_checked.ensures c.if-not-is-checked.false)
+    (looks_blank row c.words_of-words.result c.told-row c.fits-row c.words_of-words.ensures c.are_ones.result false c.are_ones.ensures c.if-are_ones.false)
+    (looks_checked row c.words_of-words.result c.told-row c.fits-row c.words_of-words.ensures c.is_checked.result true c.is_checked.ensures c.if-not-is_checked.false)
 
 pub returns-in-None : goal.returns-in-None
 returns-in-None c =
     let row = c.args.row.now in
-    fields_say row c.words-of-words.result c.told-row c.fits-row c.words-of-words.ensures c.read.result c.read.ensures.body c.read.ensures.fit
+    fields_say row c.words_of-words.result c.told-row c.fits-row c.words_of-words.ensures c.read.result c.read.ensures.body c.read.ensures.fit
     none c.in-None.ensures
-    (looks_blank row c.words-of-words.result c.told-row c.fits-row c.words-of-words.ensures c.are-ones.result false c.are-ones.ensures c.if-are-ones.false)
-    (looks_checked row c.words-of-words.result c.told-row c.fits-row c.words-of-words.ensures c.is_checked.result true c.is_checked.ensures c.if-not-is-checked.false)
+    (looks_blank row c.words_of-words.result c.told-row c.fits-row c.words_of-words.ensures c.are_ones.result false c.are_ones.ensures c.if-are_ones.false)
+    (looks_checked row c.words_of-words.result c.told-row c.fits-row c.words_of-words.ensures c.is_checked.result true c.is_checked.ensures c.if-not-is_checked.false)

@@ -11,19 +11,19 @@ few w h = ones-le 64 w h
 fewer : (w : ℕ) → w < 2 ^ 64 → ones (w / 256) ≤ 56
 fewer w h = ones-le 56 (w / 256) (div_below w 256 (2 ^ 56) (omega arith) h)
 
-pub overflow-add-set : goal.overflow-add-set
-overflow-add-set c = let ws = c.args.words in omega (arith, few (get_or ws 0 0) (omega arith), few (get_or ws 1 0) (omega arith))
+pub overflow_add-set : goal.overflow_add-set
+overflow_add-set c = let ws = c.args.words in omega (arith, few (get_or ws 0 0) (omega arith), few (get_or ws 1 0) (omega arith))
 
-pub overflow-add-set-2 : goal.overflow-add-set-2
-overflow-add-set-2 c = let ws = c.args.words in omega (arith, few (get_or ws 0 0) (omega arith), few (get_or ws 1 0) (omega arith), few (get_or ws 2 0) (omega arith))
+pub overflow_add-set-2 : goal.overflow_add-set-2
+overflow_add-set-2 c = let ws = c.args.words in omega (arith, few (get_or ws 0 0) (omega arith), few (get_or ws 1 0) (omega arith), few (get_or ws 2 0) (omega arith))
 
-pub overflow-add-set-3 : goal.overflow-add-set-3
-overflow-add-set-3 c =
+pub overflow_add-set-3 : goal.overflow_add-set-3
+overflow_add-set-3 c =
     let ws = c.args.words in
     omega (arith, few (get_or ws 0 0) (omega arith), few (get_or ws 1 0) (omega arith), few (get_or ws 2 0) (omega arith), fewer (get_or ws 3 0) (omega arith))
 
-pub overflow-sub-set : goal.overflow-sub-set
-overflow-sub-set c =
+pub overflow_sub-set : goal.overflow_sub-set
+overflow_sub-set c =
     let ws = c.args.words in
     omega (arith, few (get_or ws 0 0) (omega arith), few (get_or ws 1 0) (omega arith), few (get_or ws 2 0) (omega arith), fewer (get_or ws 3 0) (omega arith))
 

@@ -15,9 +15,9 @@ loop-k-preserved c =
     let words = c.args.words in
     let size : length words ≡ 4 = search rules in
     let small : get_or words k 0 < 2 ^ 64 = search rules in (
-      row_more c.loop-k.row c.copy-from-slice.new.self words k (omega arith) c.loop-k.invariant.1 (omega arith) small c.loop-k.invariant.0
-          (c.copy-from-slice.ensures.after ∙ c.to-be-bytes.ensures ∙ sym (bytes_are (get_or words k 0))),
-      same_len_mid (8 * k) (8 * k + 8 - 8 * k) c.loop-k.row c.copy-from-slice.new.self c.copy-from-slice.auto.self ∙ c.loop-k.invariant.1,
+      row_more c.loop-k.row c.copy_from_slice.new.self words k (omega arith) c.loop-k.invariant.1 (omega arith) small c.loop-k.invariant.0
+          (c.copy_from_slice.ensures.after ∙ c.to_be_bytes.ensures ∙ sym (bytes_are (get_or words k 0))),
+      same_len_mid (8 * k) (8 * k + 8 - 8 * k) c.loop-k.row c.copy_from_slice.new.self c.copy_from_slice.auto.self ∙ c.loop-k.invariant.1,
     )
 
 pub returns : goal.returns

@@ -4,5 +4,5 @@ use Rattle.rows.proofs.answer.text_reply.Goals as goal
 
 pub returns : goal.returns
 returns c =
-    let after = c.copy-from-slice.ensures.after in
-    record { text = take_at c.copy-from-slice.new.self _ (length c.args.text.now) (ap length after) ∙ after; len = c.requires }
+    let after = c.copy_from_slice.ensures.after in
+    record { text = take_at c.copy_from_slice.new.self _ (length c.args.text.now) (ap length after) ∙ after; len = c.requires }

@@ -6,29 +6,29 @@ use Rattle.rows.specs.Hex.{hex_bytes}
 use Rattle.rows.proofs.Pairs.{no_high, no_low, both, no_byte, byte_more, row_of_64, all_read}
 use Rattle.rows.proofs.hex.parse_row.Goals as goal
 
-pub returns-in-err-high : goal.returns-in-err-high
-returns-in-err-high c =
+pub returns-in_err-high : goal.returns-in_err-high
+returns-in_err-high c =
     let line = c.args.line.now in
     let i : ℕ = c.loop-i.i in
-    ap (told (λ row. row)) c.from-residual.ensures
+    ap (told (λ row. row)) c.from_residual.ensures
     ∙ sym (row_of_64 line none c.if-line-ne64.false (no_byte line i (omega arith) (hex_bytes line) (take i c.loop-i.row) c.loop-i.invariant.0
-    (no_high (get_or line (2 * i) 0) (get_or line (2 * i + 1) 0) c.in-err-high.ensures)))
+    (no_high (get_or line (2 * i) 0) (get_or line (2 * i + 1) 0) c.in_err-high.ensures)))
 
-pub returns-in-err-low : goal.returns-in-err-low
-returns-in-err-low c =
+pub returns-in_err-low : goal.returns-in_err-low
+returns-in_err-low c =
     let line = c.args.line.now in
     let i : ℕ = c.loop-i.i in
-    ap (told (λ row. row)) c.from-residual-in-err-low.ensures
+    ap (told (λ row. row)) c.from_residual-in_err-low.ensures
     ∙ sym (row_of_64 line none c.if-line-ne64.false (no_byte line i (omega arith) (hex_bytes line) (take i c.loop-i.row) c.loop-i.invariant.0
-    (no_low (get_or line (2 * i) 0) (get_or line (2 * i + 1) 0) c.in-ok-high.high c.in-ok-high.ensures c.in-err-low.ensures)))
+    (no_low (get_or line (2 * i) 0) (get_or line (2 * i + 1) 0) c.in_ok-high.high c.in_ok-high.ensures c.in_err-low.ensures)))
 
 pub loop-i-preserved : goal.loop-i-preserved
 loop-i-preserved c =
     let line = c.args.line.now in
     let i : ℕ = c.loop-i.i in
-    let b : ℕ = 16 * c.in-ok-high.high + c.in-ok-low.low in (
+    let b : ℕ = 16 * c.in_ok-high.high + c.in_ok-low.low in (
       byte_more line i (omega arith) (hex_bytes line) c.loop-i.row b (omega (arith, c.loop-i.invariant.1)) c.loop-i.invariant.0
-          (both (get_or line (2 * i) 0) (get_or line (2 * i + 1) 0) c.in-ok-high.high c.in-ok-low.low c.in-ok-high.ensures c.in-ok-low.ensures),
+          (both (get_or line (2 * i) 0) (get_or line (2 * i + 1) 0) c.in_ok-high.high c.in_ok-low.low c.in_ok-high.ensures c.in_ok-low.ensures),
       length-set c.loop-i.row i b ∙ c.loop-i.invariant.1,
     )
 

@@ -5,15 +5,15 @@ use Rattle.rules.specs.Lists.{told}
 use Rattle.trace.proofs.WordsRead.{day_of}
 use Rattle.trace.proofs.words.day.Goals as goal
 
-pub returns-in-err-day : goal.returns-in-err-day
-returns-in-err-day c = ap (told (λ n. n)) c.from-residual.ensures ∙ sym (day_of c.args.word.now none c.in-err-day.ensures.value)
+pub returns-in_err-day : goal.returns-in_err-day
+returns-in_err-day c = ap (told (λ n. n)) c.from_residual.ensures ∙ sym (day_of c.args.word.now none c.in_err-day.ensures.value)
 
-pub returns-then-day-le-LAST-DAY : goal.returns-then-day-le-LAST-DAY
-returns-then-day-le-LAST-DAY c =
-    let day = c.in-ok-day.day in
-    sym (day_of c.args.word.now (some day) c.in-ok-day.ensures.value ∙ ap (λ b. cond b (some day) none) (le-leb day 65535 c.if-day-le-LAST-DAY.true))
+pub returns-then-day-le-LAST_DAY : goal.returns-then-day-le-LAST_DAY
+returns-then-day-le-LAST_DAY c =
+    let day = c.in_ok-day.day in
+    sym (day_of c.args.word.now (some day) c.in_ok-day.ensures.value ∙ ap (λ b. cond b (some day) none) (le-leb day 65535 c.if-day-le-LAST_DAY.true))
 
-pub returns-else-day-le-LAST-DAY : goal.returns-else-day-le-LAST-DAY
-returns-else-day-le-LAST-DAY c =
-    let day = c.in-ok-day.day in
-    sym (day_of c.args.word.now (some day) c.in-ok-day.ensures.value ∙ ap (λ b. cond b (some day) none) (lt-leb day 65535 c.if-day-le-LAST-DAY.false))
+pub returns-else-day-le-LAST_DAY : goal.returns-else-day-le-LAST_DAY
+returns-else-day-le-LAST_DAY c =
+    let day = c.in_ok-day.day in
+    sym (day_of c.args.word.now (some day) c.in_ok-day.ensures.value ∙ ap (λ b. cond b (some day) none) (lt-leb day 65535 c.if-day-le-LAST_DAY.false))

@@ -7,21 +7,21 @@ use Rattle.trace.specs.Meaning.{kind_of}
 use Rattle.trace.proofs.WordsRead.{kind_by}
 use Rattle.trace.proofs.words.kind.Goals as goal
 
-pub returns-in-err-single : goal.returns-in-err-single
-returns-in-err-single c = ap (told kind_of) c.from-residual.ensures ∙ sym (kind_by c.args.word.now none c.in-err-single.ensures)
+pub returns-in_err-single : goal.returns-in_err-single
+returns-in_err-single c = ap (told kind_of) c.from_residual.ensures ∙ sym (kind_by c.args.word.now none c.in_err-single.ensures)
 
 pub returns-in-70 : goal.returns-in-70
 returns-in-70 c =
-    sym (kind_by c.args.word.now (some c.in-ok-single.field-0) c.in-ok-single.ensures
+    sym (kind_by c.args.word.now (some c.in_ok-single.field-0) c.in_ok-single.ensures
     ∙ ap (λ b. cond (eqb b 70) (some flash) (cond (eqb b 83) (some sectors) none)) c.in-70.is)
 
 pub returns-in-83 : goal.returns-in-83
 returns-in-83 c =
-    sym (kind_by c.args.word.now (some c.in-ok-single.field-0) c.in-ok-single.ensures
+    sym (kind_by c.args.word.now (some c.in_ok-single.field-0) c.in_ok-single.ensures
     ∙ ap (λ b. cond (eqb b 70) (some flash) (cond (eqb b 83) (some sectors) none)) c.in-83.is)
 
-pub returns-in-default : goal.returns-in-default
-returns-in-default c =
-    let b = c.in-ok-single.field-0 in
-    sym (kind_by c.args.word.now (some b) c.in-ok-single.ensures
+pub returns-in_default : goal.returns-in_default
+returns-in_default c =
+    let b = c.in_ok-single.field-0 in
+    sym (kind_by c.args.word.now (some b) c.in_ok-single.ensures
     ∙ ap (λ t. cond t (some flash) (cond (eqb b 83) (some sectors) none)) (ne_eqb b 70 (λ e. omega arith)) ∙ ap (λ t. cond t (some sectors) none) (ne_eqb b 83 (λ e. omega arith)))

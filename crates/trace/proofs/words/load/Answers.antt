@@ -5,7 +5,6 @@ use Rattle.std.proofs.lemmas.Int.{ints}
 use Rattle.rules.specs.Lists.{told}
 use Rattle.trace.proofs.WordsRead.{minus_load, plain_load}
 use Rattle.trace.proofs.words.load.Goals as goal
-use Rattle.trace.proofs.words.load.Goals.{in-default-via-then-word-lt1, in-default-via-else-word-lt1+in-default·}
 
 less : (n : ℕ) → n < 1000000000 → to_z w32 (of_z w32 (pos 0 -ℤ to_z w32 n)) ≡ neg_ℤ (pos n)
 less n h = omega (arith, ints)
@@ -13,31 +12,25 @@ less n h = omega (arith, ints)
 more : (n : ℕ) → n < 1000000000 → to_z w32 n ≡ pos n
 more n h = omega (arith, ints)
 
-pub returns-in-err-size : goal.returns-in-err-size
-returns-in-err-size c =
-    ap (told (λ z. z)) c.from-residual.ensures ∙ sym (minus_load c.args.word.now none (omega (arith, ltb-true, ltb-false, eqb-true, eqb-false)) (omega (arith, ltb-true, ltb-false, eqb-true, eqb-false)) c.in-err-size.ensures.value)
+pub returns-in_err-size : goal.returns-in_err-size
+returns-in_err-size c =
+    ap (told (λ z. z)) c.from_residual.ensures ∙ sym (minus_load c.args.word.now none (omega (arith, ltb-true, ltb-false, eqb-true, eqb-false)) (omega (arith, ltb-true, ltb-false, eqb-true, eqb-false)) c.in_err-size.ensures.value)
 
-pub returns-in-ok-size : goal.returns-in-ok-size
-returns-in-ok-size c =
-    let n = c.in-ok-size.size in
-    ap some (less n c.in-ok-size.ensures.small)
-    ∙ sym (minus_load c.args.word.now (some n) (omega (arith, ltb-true, ltb-false, eqb-true, eqb-false)) (omega (arith, ltb-true, ltb-false, eqb-true, eqb-false)) c.in-ok-size.ensures.value)
+pub returns-in_ok-size : goal.returns-in_ok-size
+returns-in_ok-size c =
+    let n = c.in_ok-size.size in
+    ap some (less n c.in_ok-size.ensures.small)
+    ∙ sym (minus_load c.args.word.now (some n) (omega (arith, ltb-true, ltb-false, eqb-true, eqb-false)) (omega (arith, ltb-true, ltb-false, eqb-true, eqb-false)) c.in_ok-size.ensures.value)
 
-pub returns-in-err-size-2 : goal.returns-in-err-size-2
-returns-in-err-size-2 c =
+pub returns-in_err-size-2 : goal.returns-in_err-size-2
+returns-in_err-size-2 c =
     let word = c.args.word.now in
-    let plain : 0 < length word → get_or word 0 0 ≡ 45 → ⊥ = elim c.in-default.branch [
-      | in-default-via-then-word-lt1 w ↦ λ h e. omega (arith, ltb-true, ltb-false, eqb-true, eqb-false)
-      | in-default-via-else-word-lt1+in-default· w ↦ λ h e. omega (arith, ltb-true, ltb-false, eqb-true, eqb-false)
-    ] in
-    ap (told (λ z. z)) c.from-residual-in-err-size-2.ensures ∙ sym (plain_load word none plain c.in-err-size-2.ensures.value)
+    let plain : 0 < length word → get_or word 0 0 ≡ 45 → ⊥ = λ h e. omega (arith, ltb-true, ltb-false, eqb-true, eqb-false) in
+    ap (told (λ z. z)) c.from_residual-in_err-size-2.ensures ∙ sym (plain_load word none plain c.in_err-size-2.ensures.value)
 
-pub returns-in-ok-size-2 : goal.returns-in-ok-size-2
-returns-in-ok-size-2 c =
+pub returns-in_ok-size-2 : goal.returns-in_ok-size-2
+returns-in_ok-size-2 c =
     let word = c.args.word.now in
-    let n = c.in-ok-size-2.size in
-    let plain : 0 < length word → get_or word 0 0 ≡ 45 → ⊥ = elim c.in-default.branch [
-      | in-default-via-then-word-lt1 w ↦ λ h e. omega (arith, ltb-true, ltb-false, eqb-true, eqb-false)
-      | in-default-via-else-word-lt1+in-default· w ↦ λ h e. omega (arith, ltb-true, ltb-false, eqb-true, eqb-false)
-    ] in
-    ap some (more n c.in-ok-size-2.ensures.small) ∙ sym (plain_load word (some n) plain c.in-ok-size-2.ensures.value)
+    let n = c.in_ok-size-2.size in
+    let plain : 0 < length word → get_or word 0 0 ≡ 45 → ⊥ = λ h e. omega (arith, ltb-true, ltb-false, eqb-true, eqb-false) in
+    ap some (more n c.in_ok-size-2.ensures.small) ∙ sym (plain_load word (some n) plain c.in_ok-size-2.ensures.value)

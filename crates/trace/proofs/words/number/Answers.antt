@@ -25,15 +25,15 @@ returns-then-byte-lt48 c =
       | then-byte-lt48-via-then-byte-lt48 w ↦ none_here word i c.loop-byte-test.true (inl w.if-byte-lt48.true)
       | then-byte-lt48-via-else-byte-lt48+then-byte-gt57 w ↦ none_here word i c.loop-byte-test.true (inr w.if-byte-gt57.true)
     ] in
-    record { value = sym (some_bad word c.if-word-lt1.false c.if-word-gt-LONGEST-NUMBER.false (c.loop-byte.invariant.2 ∙ bad)); small = tt }
+    record { value = sym (some_bad word c.if-word-lt1.false c.if-word-gt-LONGEST_NUMBER.false (c.loop-byte.invariant.2 ∙ bad)); small = tt }
 
-pub overflow-mul-number : goal.overflow-mul-number
-overflow-mul-number c =
+pub overflow_mul-number : goal.overflow_mul-number
+overflow_mul-number c =
     let i : ℕ = c.loop-byte.byte-index in
     omega (arith, few_digits (i + 1) 9 (omega arith), digit_room i c.loop-byte.number 0 (omega arith) c.loop-byte.invariant.1)
 
-pub overflow-add-number : goal.overflow-add-number
-overflow-add-number c =
+pub overflow_add-number : goal.overflow_add-number
+overflow_add-number c =
     let i : ℕ = c.loop-byte.byte-index in
     omega (arith, few_digits (i + 1) 9 (omega arith), digit_room i c.loop-byte.number c.from.result (omega arith) c.loop-byte.invariant.1)
 
@@ -55,6 +55,6 @@ returns c =
     let good : all_digits word ≡ true = c.loop-byte.invariant.2 ∙ ap all_digits (drop_all i word past) in
     record {
       value =
-          ap some (c.loop-byte.invariant.0 ∙ ap written (take_all i word past)) ∙ sym (all_good word c.if-word-lt1.false c.if-word-gt-LONGEST-NUMBER.false good);
+          ap some (c.loop-byte.invariant.0 ∙ ap written (take_all i word past)) ∙ sym (all_good word c.if-word-lt1.false c.if-word-gt-LONGEST_NUMBER.false good);
       small = omega (arith, few_digits i 9 (omega arith));
     }

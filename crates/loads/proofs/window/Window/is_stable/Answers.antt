@@ -11,4 +11,4 @@ returns c =
     let len : length w.samples ≡ 8 = search rules in
     let d : to_z w64 (of_z w64 (to_z w64 (of_z w64 c.from.result) -ℤ to_z w64 (of_z w64 c.from-2.result))) ≡ e.result.high -ℤ e.result.low = omega (arith, ints) in
     ap (λ z. le_z z (pos 5)) d
-    ∙ full_stable w.samples w.len e.result.high e.result.low len (sym c.if-not-is-full.false ∙ c.is_full.ensures) e.ensures.high e.ensures.low
+    ∙ full_stable w.samples w.len e.result.high e.result.low len (sym c.if-not-is_full.false ∙ c.is_full.ensures) e.ensures.high e.ensures.low

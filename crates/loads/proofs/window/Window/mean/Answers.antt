@@ -4,11 +4,11 @@ use Rattle.rules.specs.Loads.{nearest}
 use Rattle.loads.proofs.Extents.{full_mean}
 use Rattle.loads.proofs.window.Window.mean.Goals as goal
 
-pub returns-then-is-full : goal.returns-then-is-full
-returns-then-is-full c =
+pub returns-then-is_full : goal.returns-then-is_full
+returns-then-is_full c =
     let w = c.args.self.now in
     let e = c.of in
     let len : length w.samples ≡ 8 = search rules in
     let fit : to_z w64 (of_z w64 e.result.sum) ≡ e.result.sum = search rules in
     ap some (c.eighth.ensures ∙ ap (nearest 8) fit)
-    ∙ full_mean w.samples w.len e.result.sum len (sym c.if-is-full.true ∙ c.is_full.ensures) e.ensures.sum
+    ∙ full_mean w.samples w.len e.result.sum len (sym c.if-is_full.true ∙ c.is_full.ensures) e.ensures.sum

@@ -22,6 +22,6 @@ returns c =
     record {
       says =
           erases_inside bytes c.args.self.now.writes c.args.page c.args.self.now.whole (rows_in c.loop-i.self.cells.now) c.if-page-self.false left
-          ∙ ap (λ n. (accepted, rows_in c.loop-i.self.cells.now, n)) (ap one_more (sym c.loop-i.invariant.1) ∙ sym c.count-write-self.ensures);
+          ∙ ap (λ n. (accepted, rows_in c.loop-i.self.cells.now, n)) (ap one_more (sym c.loop-i.invariant.1) ∙ sym c.count_write-self.ensures);
       lender = c.loop-i.invariant.2;
     }

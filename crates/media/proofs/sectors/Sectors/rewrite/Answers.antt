@@ -19,6 +19,6 @@ returns c =
     let q : c.loop-i.i ≡ 512 = omega arith in
     record {
       cells = c.loop-i.invariant.0 ∙ ap (paste c.args.self.now.cells.now (c.args.page * 512) c.args.sector.now) q;
-      writes = c.count-write-self.ensures ∙ ap one_more c.loop-i.invariant.1;
+      writes = c.count_write-self.ensures ∙ ap one_more c.loop-i.invariant.1;
       lent = c.loop-i.invariant.2;
     }

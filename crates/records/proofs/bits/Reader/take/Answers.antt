@@ -21,12 +21,12 @@ returns-then-width-self c =
     let rest : ℕ = self.bits - c.width-width.result in
     record {
       steady = record {
-        held = rw c.low-bits-self.ensures (mod_below self.held (2 ^ rest) (pow_pos rest));
+        held = rw c.low_bits-self.ensures (mod_below self.held (2 ^ rest) (pow_pos rest));
         bits = omega arith;
         next = c.requires.steady.next;
         size = c.requires.steady.size;
       };
-      split = took_within self.words self.next self.held rest c.low-bits-self.result c.requires.steady.size c.low-bits-self.ensures;
+      split = took_within self.words self.next self.held rest c.low_bits-self.result c.requires.steady.size c.low_bits-self.ensures;
       count = omega arith;
       fits = rw (← c.width-width.ensures.width) (within_fits self.held self.bits c.width-width.result rest c.requires.steady.held (omega arith));
     }
@@ -42,13 +42,13 @@ returns-else-width-self c =
     let wide : self.bits + more ≡ width_of c.args.field = omega arith in
     record {
       steady = record {
-        held = rw c.low-bits-self-else-width-self.ensures (mod_below word (2 ^ left) (pow_pos left));
+        held = rw c.low_bits-self-else-width-self.ensures (mod_below word (2 ^ left) (pow_pos left));
         bits = omega arith;
         next = omega arith;
         size = c.requires.steady.size;
       };
-      split = took_across self.words self.next self.held more left c.beside-value.result c.low-bits-self-else-width-self.result c.requires.steady.size
-          (omega arith) (omega arith) c.beside-value.ensures c.low-bits-self-else-width-self.ensures;
+      split = took_across self.words self.next self.held more left c.beside-value.result c.low_bits-self-else-width-self.result c.requires.steady.size
+          (omega arith) (omega arith) c.beside-value.ensures c.low_bits-self-else-width-self.ensures;
       count = omega arith;
       fits = rw c.beside-value.ensures (rw wide at whole);
     }

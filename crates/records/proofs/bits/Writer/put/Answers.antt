@@ -60,16 +60,16 @@ returns-else-bits-lt64 c =
     let sum : front + over ≡ width_of c.args.field = omega arith in
     record {
       sound = record {
-        held = rw c.low-bits-self.ensures (mod_below c.args.value (2 ^ over) (pow_pos over));
+        held = rw c.low_bits-self.ensures (mod_below c.args.value (2 ^ over) (pow_pos over));
         bits = omega arith;
         next = omega arith;
         size = length-set self.words self.next word ∙ c.requires.sound.size;
         words = All-set (λ w. w < 2 ^ 64) self.words self.next word (omega arith) c.requires.sound.words;
       };
       value =
-          ap (λ n. n * 2 ^ over + c.low-bits-self.result) (word_more self.words self.next word inside)
-          ∙ ap (λ n. (p * 2 ^ 64 + n) * 2 ^ over + c.low-bits-self.result) c.beside.ensures
-          ∙ ap (λ n. (p * 2 ^ 64 + (self.held * 2 ^ front + c.args.value / 2 ^ over)) * 2 ^ over + n) c.low-bits-self.ensures
+          ap (λ n. n * 2 ^ over + c.low_bits-self.result) (word_more self.words self.next word inside)
+          ∙ ap (λ n. (p * 2 ^ 64 + n) * 2 ^ over + c.low_bits-self.result) c.beside.ensures
+          ∙ ap (λ n. (p * 2 ^ 64 + (self.held * 2 ^ front + c.args.value / 2 ^ over)) * 2 ^ over + n) c.low_bits-self.ensures
           ∙ put_across p self.held self.bits front over c.args.value (omega arith)
           ∙ ap (λ n. (p * 2 ^ self.bits + self.held) * 2 ^ n + c.args.value) sum;
       count = omega arith;

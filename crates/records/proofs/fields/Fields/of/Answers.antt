@@ -4,8 +4,8 @@ use Rattle.records.specs.RecordsOf.{record_of}
 use Rattle.records.proofs.Lawful.{lawful_price}
 use Rattle.records.proofs.fields.Fields.of.Goals as goal
 
-pub overflow-cast-result : goal.overflow-cast-result
-overflow-cast-result c = omega (arith, c.price.ensures, lawful_price (record_of c.args.weighing) c.requires)
+pub overflow_cast-result : goal.overflow_cast-result
+overflow_cast-result c = omega (arith, c.price.ensures, lawful_price (record_of c.args.weighing) c.requires)
 
 pub returns : goal.returns
 unfolding fields

@@ -11,7 +11,7 @@ use Rattle.records.specs.FieldsOf.{is_record, record_in}
 use Rattle.records.proofs.Marking.{and_false}
 use Rattle.records.proofs.Lawful.{code_at_most, unbounded, all_right, wrong_interval, wrong_tare, wrong_mark, wrong_net, wrong_price, same_record}
 use Rattle.records.proofs.fields.Fields.record.Goals as goal
-use Rattle.records.proofs.fields.Fields.record.Goals.{then-self-ne-KIND-via-then-self-ne-KIND, then-self-ne-KIND-via-else-self-ne-KIND+then-self-ne-SPARE, then-self-ne-KIND-via-else-self-ne-KIND+else-self-ne-SPARE+then-not-are-bounded, else-self-net-via-then-self-net+else-from-price, else-self-net-via-else-self-net}
+use Rattle.records.proofs.fields.Fields.record.Goals.{then-self-ne-KIND-via-then-self-ne-KIND, then-self-ne-KIND-via-else-self-ne-KIND+then-self-ne-SPARE, then-self-ne-KIND-via-else-self-ne-KIND+else-self-ne-SPARE+then-not-are_bounded, else-self-net-via-then-self-net+else-from-price, else-self-net-via-else-self-net}
 
 -- fields whose record is not lawful give none
 no_record : (f : Fields) → lawful (record_in f) ≡ false → none ≡ cond (is_record f) (some (record_in f)) none
@@ -29,18 +29,18 @@ some_was : {A : Type 0} (b : Bool) (x y : A) → some y ≡ cond b (some x) none
 some_was true x y e = cc
 some_was false x y e = cc
 
-pub returns-in-err-interval : goal.returns-in-err-interval
-returns-in-err-interval c =
-    let past : 6 ≤ c.args.self.interval = ltb-false c.args.self.interval 6 (none_was (ltb c.args.self.interval 6) c.args.self.interval c.in-err-interval.ensures) in
-    ap (told record_of) c.from-residual.ensures ∙ no_record c.args.self (wrong_interval (record_in c.args.self) past)
+pub returns-in_err-interval : goal.returns-in_err-interval
+returns-in_err-interval c =
+    let past : 6 ≤ c.args.self.interval = ltb-false c.args.self.interval 6 (none_was (ltb c.args.self.interval 6) c.args.self.interval c.in_err-interval.ensures) in
+    ap (told record_of) c.from_residual.ensures ∙ no_record c.args.self (wrong_interval (record_in c.args.self) past)
 
-pub returns-in-err-tare : goal.returns-in-err-tare
-returns-in-err-tare c =
-    ap (told record_of) c.from-residual-in-err-tare.ensures ∙ no_record c.args.self (wrong_tare (record_in c.args.self) c.in-err-tare.ensures)
+pub returns-in_err-tare : goal.returns-in_err-tare
+returns-in_err-tare c =
+    ap (told record_of) c.from_residual-in_err-tare.ensures ∙ no_record c.args.self (wrong_tare (record_in c.args.self) c.in_err-tare.ensures)
 
-pub returns-in-default : goal.returns-in-default
-returns-in-default c =
-    no_record c.args.self (wrong_mark (record_in c.args.self) (none_was (lawful_mark (digits_of 64 8 c.args.self.mark)) (digits_of 64 8 c.args.self.mark) c.in-default.ensures))
+pub returns-in_default : goal.returns-in_default
+returns-in_default c =
+    no_record c.args.self (wrong_mark (record_in c.args.self) (none_was (lawful_mark (digits_of 64 8 c.args.self.mark)) (digits_of 64 8 c.args.self.mark) c.in_default.ensures))
 
 pub returns-then-self-ne-KIND : goal.returns-then-self-ne-KIND
 returns-then-self-ne-KIND c =
@@ -50,17 +50,17 @@ returns-then-self-ne-KIND c =
       | then-self-ne-KIND-via-else-self-ne-KIND+then-self-ne-SPARE w ↦
           sym (ap (λ b. cond (eqb f.kind 0xa1 && (b && lawful (record_in f))) (some (record_in f)) none) (ne_eqb f.spare (2 ^ 37 - 1) w.if-self-ne-SPARE.true)
           ∙ ap (λ b. cond b (some (record_in f)) none) (and_false (eqb f.kind 0xa1)))
-      | then-self-ne-KIND-via-else-self-ne-KIND+else-self-ne-SPARE+then-not-are-bounded w ↦
-          no_record f (unbounded (record_in f) (sym w.are-bounded.ensures ∙ w.if-not-are-bounded.true))
+      | then-self-ne-KIND-via-else-self-ne-KIND+else-self-ne-SPARE+then-not-are_bounded w ↦
+          no_record f (unbounded (record_in f) (sym w.are_bounded.ensures ∙ w.if-not-are_bounded.true))
     ]
 
 pub returns-then-from-price : goal.returns-then-from-price
 returns-then-from-price c =
     let f = c.args.self in
-    let i = c.in-ok-interval.interval in
-    let t = c.in-ok-tare.tare in
-    let code : interval_code i ≡ f.interval = some_was (ltb f.interval 6) f.interval (interval_code i) c.in-ok-interval.ensures in
-    let says = c.in-ok-tare.ensures in
+    let i = c.in_ok-interval.interval in
+    let t = c.in_ok-tare.tare in
+    let code : interval_code i ≡ f.interval = some_was (ltb f.interval 6) f.interval (interval_code i) c.in_ok-interval.ensures in
+    let says = c.in_ok-tare.ensures in
     let mark : c.in-Ok.mark.codes ≡ digits_of 64 8 f.mark = some_was (lawful_mark (digits_of 64 8 f.mark)) (digits_of 64 8 f.mark) c.in-Ok.mark.codes c.in-Ok.ensures in
     let net : f.net ≡ f.gross - tare_value_of t = c.if-self-net.true ∙ c.net.ensures in
     let price : f.price ≡ price_of ((f.gross - tare_value_of t) * kg_of (interval_code i)) f.unit_price = sym c.from.ensures ∙ c.if-from-price.true ∙ c.price.ensures in
@@ -68,7 +68,7 @@ returns-then-from-price c =
     let number : f.number < 2 ^ 32 = search rules in
     let day : f.day < 2 ^ 16 = search rules in
     let ok : lawful (record_in f) ≡ true =
-    all_right (record_in f) (sym c.are-bounded.ensures ∙ c.if-not-are-bounded.false) number day few says.0 (net ∙ ap (λ n. f.gross - n) says.2)
+    all_right (record_in f) (sym c.are_bounded.ensures ∙ c.if-not-are_bounded.false) number day few says.0 (net ∙ ap (λ n. f.gross - n) says.2)
     (price ∙ ap (λ n. price_of (n * kg_of (interval_code i)) f.unit_price) (sym net) ∙ ap (λ k. price_of (f.net * kg_of k) f.unit_price) code)
     (ap lawful_mark (sym mark) ∙ c.in-Ok.mark.known) in
     let same = same_record f.number f.day f.minute f.unit_price (interval_code i) f.interval f.gross (tare_kind_of t) f.tare_kind
@@ -81,10 +81,10 @@ returns-then-from-price c =
 pub returns-else-self-net : goal.returns-else-self-net
 returns-else-self-net c =
     let f = c.args.self in
-    let i = c.in-ok-interval.interval in
-    let t = c.in-ok-tare.tare in
-    let code : interval_code i ≡ f.interval = some_was (ltb f.interval 6) f.interval (interval_code i) c.in-ok-interval.ensures in
-    let tare = c.in-ok-tare.ensures.2 in
+    let i = c.in_ok-interval.interval in
+    let t = c.in_ok-tare.tare in
+    let code : interval_code i ≡ f.interval = some_was (ltb f.interval 6) f.interval (interval_code i) c.in_ok-interval.ensures in
+    let tare = c.in_ok-tare.ensures.2 in
     let net : c.net.result.0 ≡ f.gross - f.tare = c.net.ensures ∙ ap (λ n. f.gross - n) tare in
     elim c.else-self-net.branch [
       | else-self-net-via-else-self-net w ↦ no_record f (wrong_net (record_in f) (λ e. w.if-self-net.false (e ∙ sym net)))

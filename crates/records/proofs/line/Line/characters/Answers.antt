@@ -9,6 +9,6 @@ returns c =
     let text = c.args.text.now in
     record {
       text = byte_behind (text_of c.byte.new.self) _ (text_of l) text c.args.end c.byte.ensures.text
-          (part_written l.bytes c.copy-from-slice.new.self text l.len (length text) (omega arith) refl c.copy-from-slice.ensures.after);
+          (part_written l.bytes c.copy_from_slice.new.self text l.len (length text) (omega arith) refl c.copy_from_slice.ensures.after);
       len = c.byte.ensures.len;
     }

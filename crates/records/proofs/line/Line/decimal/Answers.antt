@@ -12,7 +12,7 @@ returns c =
     let v = c.args.value in
     record {
       text = byte_behind (text_of c.byte.new.self) _ (text_of l) (decimal n v) c.args.end c.byte.ensures.text
-          (part_written l.bytes c.write-decimal.new.out (decimal n v) l.len n (omega arith) (decimal_length n v)
-          (c.write-decimal.ensures ∙ ap (λ k. decimal k v) (mid_size l.bytes l.len n (omega arith))));
+          (part_written l.bytes c.write_decimal.new.out (decimal n v) l.len n (omega arith) (decimal_length n v)
+          (c.write_decimal.ensures ∙ ap (λ k. decimal k v) (mid_size l.bytes l.len n (omega arith))));
       len = c.byte.ensures.len;
     }

@@ -5,8 +5,8 @@ use Rattle.rules.specs.Records.{character_of}
 use Rattle.records.proofs.Marking.{codes_known}
 use Rattle.records.proofs.mark.Mark.characters.Goals as goal
 
-pub character-of-requires : goal.character-of-requires
-character-of-requires c =
+pub character_of-requires : goal.character_of-requires
+character_of-requires c =
     let known = codes_known c.args.self.codes c.args.self.known in
     All-get_or (λ d. d ≤ 36) c.args.self.codes c.loop-i.i 0 (omega (arith, known.0)) known.1
 

@@ -10,9 +10,9 @@ returns-then-bytes-gt8 c =
     sym (ap (λ b. cond b (some m) none) (long_is_no_mark c.args.bytes.now c.if-bytes-gt8.true))
 
 pub loop-i-preserved : goal.loop-i-preserved
-loop-i-preserved c = typed_more c.args.bytes.now c.loop-i.codes c.loop-i.i c.code-of.result (omega arith) (omega arith) c.loop-i.invariant c.code-of.ensures
+loop-i-preserved c = typed_more c.args.bytes.now c.loop-i.codes c.loop-i.i c.code_of.result (omega arith) (omega arith) c.loop-i.invariant c.code_of.ensures
 
 pub returns : goal.returns
 returns c =
     let codes_is = typed_done c.args.bytes.now c.loop-i.codes c.loop-i.i (omega arith) (omega arith) c.loop-i.invariant in
-    c.from-codes.ensures ∙ ap (λ m. cond (lawful_mark m) (some m) none) codes_is
+    c.from_codes.ensures ∙ ap (λ m. cond (lawful_mark m) (some m) none) codes_is

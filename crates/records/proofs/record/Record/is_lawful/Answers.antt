@@ -26,11 +26,11 @@ asked r tare net b e t n =
 pub returns-then-bounded : goal.returns-then-bounded
 returns-then-bounded c =
     let r = c.args.self in
-    let is = asked r c.weight.result.0 c.net.result.0 c.are-bounded-bounded.result c.are-bounded-bounded.ensures c.weight.ensures c.net.ensures in
-    c.is-lawful.ensures ∙ sym (by r (search rules) (search rules) ∙ ap (λ b. b && lawful_tare (tare_kind_of r.tare) (tare_value_of r.tare)) (sym is ∙ c.if-bounded.true))
+    let is = asked r c.weight.result.0 c.net.result.0 c.are_bounded-bounded.result c.are_bounded-bounded.ensures c.weight.ensures c.net.ensures in
+    c.is_lawful.ensures ∙ sym (by r (search rules) (search rules) ∙ ap (λ b. b && lawful_tare (tare_kind_of r.tare) (tare_value_of r.tare)) (sym is ∙ c.if-bounded.true))
 
 pub returns-else-bounded : goal.returns-else-bounded
 returns-else-bounded c =
     let r = c.args.self in
-    let is = asked r c.weight.result.0 c.net.result.0 c.are-bounded-bounded.result c.are-bounded-bounded.ensures c.weight.ensures c.net.ensures in
+    let is = asked r c.weight.result.0 c.net.result.0 c.are_bounded-bounded.result c.are_bounded-bounded.ensures c.weight.ensures c.net.ensures in
     c.if-bounded.false ∙ sym (by r (search rules) (search rules) ∙ ap (λ b. b && lawful_tare (tare_kind_of r.tare) (tare_value_of r.tare)) (sym is ∙ c.if-bounded.false))

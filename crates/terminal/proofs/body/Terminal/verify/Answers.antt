@@ -7,8 +7,8 @@ use Rattle.terminal.specs.Worlds.{world}
 use Rattle.terminal.proofs.LookUps.{is_found, is_refused, was_read}
 use Rattle.terminal.proofs.body.Terminal.verify.Goals as goal
 
-pub returns-in-default : goal.returns-in-default
-returns-in-default g c = grind (arith, nat_tests)
+pub returns-in_default : goal.returns-in_default
+returns-in_default g c = grind (arith, nat_tests)
 
 pub returns-in-Err : goal.returns-in-Err
 returns-in-Err g c =
