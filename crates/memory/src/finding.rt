@@ -17,7 +17,7 @@ use records::Record;
 
 /// The number of the next record: one more than the newest number, or 1.
 pub fn next_number<M: Medium>(m: &M) -> u64
-    ensures { result ≡ next_number (rows m.now) }
+    ensures { result ≡ next_number (M.rows m.now) }
 {
     match newest(m) {
         Some(entry) => u64::from(entry.weighing.number) + 1,
@@ -41,8 +41,8 @@ fn if_numbered(entry: Option<Entry>, number: u64) -> Option<Record>
 
 /// The intact record with that number, along the round from its first row.
 fn find_from<M: Medium>(m: &M, first: usize, number: u64) -> Result<Record, MemoryFault>
-    requires { first ≡ start (rows m.now) }
-    ensures { finds (rows m.now) number ≡ (outcome result, record_found result) }
+    requires { first ≡ start (M.rows m.now) }
+    ensures { finds (M.rows m.now) number ≡ (outcome result, record_found result) }
 {
     let count = m.size() * 16;
     for k in 0..count {
@@ -57,14 +57,14 @@ fn find_from<M: Medium>(m: &M, first: usize, number: u64) -> Result<Record, Memo
 
 /// The intact record with that number.
 pub fn find<M: Medium>(m: &M, number: u64) -> Result<Record, MemoryFault>
-    ensures { finds (rows m.now) number ≡ (outcome result, record_found result) }
+    ensures { finds (M.rows m.now) number ≡ (outcome result, record_found result) }
 {
     find_from(m, first_row(m, newest(m)), number)
 }
 
 /// The intact record with that number, in a memory in order.
 pub fn look_up<M: Medium>(m: &M, number: u64) -> Result<Record, MemoryFault>
-    ensures { looks_up (rows m.now) number ≡ (outcome result, record_found result) }
+    ensures { looks_up (M.rows m.now) number ≡ (outcome result, record_found result) }
 {
     let latest = check_order(m)?;
     find_from(m, first_row(m, latest), number)

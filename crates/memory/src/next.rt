@@ -19,8 +19,8 @@ fn page_after(page: usize, count: usize) -> usize
 
 /// The free row of a page, provided that it holds no record.
 fn free_in_empty<M: Medium>(m: &M, page: usize) -> Option<usize>
-    requires { page < pages (rows m.now) }
-    ensures { told (λ i. i) result ≡ free_in_empty (rows m.now) page }
+    requires { page < pages (M.rows m.now) }
+    ensures { told (λ i. i) result ≡ free_in_empty (M.rows m.now) page }
 {
     let Some(free) = free_in(m, page) else {
         return None;
@@ -34,8 +34,8 @@ fn free_in_empty<M: Medium>(m: &M, page: usize) -> Option<usize>
 
 /// The free row of the newest record's page, else that of the page after it.
 fn next_after<M: Medium>(m: &M, page: usize) -> Option<usize>
-    requires { page < pages (rows m.now) }
-    ensures { told (λ i. i) result ≡ next_after (rows m.now) page }
+    requires { page < pages (M.rows m.now) }
+    ensures { told (λ i. i) result ≡ next_after (M.rows m.now) page }
 {
     match free_in(m, page) {
         Some(row) => Some(row),
@@ -45,8 +45,8 @@ fn next_after<M: Medium>(m: &M, page: usize) -> Option<usize>
 
 /// The row that the next record goes to, by the newest record, unless the memory is full.
 pub(crate) fn next_row_after<M: Medium>(m: &M, latest: Option<Entry>) -> Option<usize>
-    requires { told entry_of latest ≡ newest_of (rows m.now) }
-    ensures { told (λ i. i) result ≡ next_row (rows m.now) }
+    requires { told entry_of latest ≡ newest_of (M.rows m.now) }
+    ensures { told (λ i. i) result ≡ next_row (M.rows m.now) }
 {
     match latest {
         Some(entry) => next_after(m, entry.row / 16),
@@ -56,7 +56,7 @@ pub(crate) fn next_row_after<M: Medium>(m: &M, latest: Option<Entry>) -> Option<
 
 /// The row that the next record goes to, unless the memory is full.
 pub fn next_row<M: Medium>(m: &M) -> Option<usize>
-    ensures { told (λ i. i) result ≡ next_row (rows m.now) }
+    ensures { told (λ i. i) result ≡ next_row (M.rows m.now) }
 {
     next_row_after(m, newest(m))
 }

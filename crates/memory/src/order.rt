@@ -39,8 +39,8 @@ fn check_next(last: Option<Record>, next: Option<Entry>) -> Result<Option<Record
 
 /// Checks that the records rise along the round from its first row, in number and in stamp.
 fn check_from<M: Medium>(m: &M, first: usize) -> Result<(), MemoryFault>
-    requires { first ≡ start (rows m.now) }
-    ensures { outcome result ≡ orders (rows m.now) }
+    requires { first ≡ start (M.rows m.now) }
+    ensures { outcome result ≡ orders (M.rows m.now) }
 {
     let count = m.size() * 16;
     let mut last = None;
@@ -53,7 +53,7 @@ fn check_from<M: Medium>(m: &M, first: usize) -> Result<(), MemoryFault>
 
 /// Checks that the records rise along the round; answers the newest.
 pub fn check_order<M: Medium>(m: &M) -> Result<Option<Entry>, MemoryFault>
-    ensures { (outcome result, newest_told result) ≡ checks (rows m.now) }
+    ensures { (outcome result, newest_told result) ≡ checks (M.rows m.now) }
 {
     let latest = newest(m);
     check_from(m, first_row(m, latest))?;

@@ -15,8 +15,8 @@ use records::is_blank;
 
 /// Whether a row of a memory is blank.
 fn is_blank_at<M: Medium>(m: &M, row: usize) -> bool
-    requires { row < length (rows m.now) }
-    ensures { result ≡ is_blank (row_at (rows m.now) row) }
+    requires { row < length (M.rows m.now) }
+    ensures { result ≡ is_blank (row_at (M.rows m.now) row) }
 {
     let mut bytes = [0; 32];
     match m.read(row, &mut bytes) {
@@ -39,8 +39,8 @@ fn if_in_page(page: usize, row: usize) -> Option<usize>
 
 /// The row after the last row of a page that is not blank, unless the page ends in one.
 pub(crate) fn free_in<M: Medium>(m: &M, page: usize) -> Option<usize>
-    requires { page < pages (rows m.now) }
-    ensures { told (λ i. i) result ≡ free_in (rows m.now) page }
+    requires { page < pages (M.rows m.now) }
+    ensures { told (λ i. i) result ≡ free_in (M.rows m.now) page }
 {
     for i in (0..16).rev() {
         if !is_blank_at(m, page * 16 + i) {
@@ -52,7 +52,7 @@ pub(crate) fn free_in<M: Medium>(m: &M, page: usize) -> Option<usize>
 
 /// Whether one of the rows from the first up to the end is intact.
 pub(crate) fn holds_record<M: Medium>(m: &M, first: usize, end: usize) -> bool
-    ensures { result ≡ any_record (rows m.now) first end }
+    ensures { result ≡ any_record (M.rows m.now) first end }
 {
     for row in first..end {
         match entry_at(m, row) {
@@ -75,8 +75,8 @@ fn is_dated(entry: Option<Entry>, day: u16) -> bool
 
 /// Whether a page holds a record of the day or later.
 pub(crate) fn dated_from<M: Medium>(m: &M, day: u16, page: usize) -> bool
-    requires { page < pages (rows m.now) }
-    ensures { result ≡ dated_from day (intact_in (rows m.now) (rows_of page)) }
+    requires { page < pages (M.rows m.now) }
+    ensures { result ≡ dated_from day (intact_in (M.rows m.now) (rows_of page)) }
 {
     for i in 0..16 {
         if is_dated(entry_at(m, page * 16 + i), day) {
@@ -88,8 +88,8 @@ pub(crate) fn dated_from<M: Medium>(m: &M, day: u16, page: usize) -> bool
 
 /// Whether all rows of a page are blank.
 pub(crate) fn all_blank<M: Medium>(m: &M, page: usize) -> bool
-    requires { page < pages (rows m.now) }
-    ensures { result ≡ all_blank (rows m.now) (rows_of page) }
+    requires { page < pages (M.rows m.now) }
+    ensures { result ≡ all_blank (M.rows m.now) (rows_of page) }
 {
     for i in 0..16 {
         if !is_blank_at(m, page * 16 + i) {

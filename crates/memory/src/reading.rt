@@ -22,7 +22,7 @@ fn intact(row: &[u8; 32]) -> Option<Record>
 
 /// The record in a row, if the row is intact.
 pub(crate) fn entry_at<M: Medium>(m: &M, row: usize) -> Option<Entry>
-    ensures { told entry_of result ≡ entry_in (rows m.now) row }
+    ensures { told entry_of result ≡ entry_in (M.rows m.now) row }
 {
     let mut bytes = [0; 32];
     match m.read(row, &mut bytes) {
@@ -53,7 +53,7 @@ fn better(best: Option<Entry>, next: Option<Entry>) -> Option<Entry>
 
 /// The newest record: the intact one with the largest number, in the lowest row among equals.
 pub fn newest<M: Medium>(m: &M) -> Option<Entry>
-    ensures { told entry_of result ≡ newest_of (rows m.now) }
+    ensures { told entry_of result ≡ newest_of (M.rows m.now) }
 {
     let mut best = None;
     for row in 0..m.size() * 16 {

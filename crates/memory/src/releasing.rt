@@ -60,16 +60,16 @@ fn is_newest_page(newest: Option<Entry>, page: usize) -> bool
 
 /// Whether a release for a day stops before a page: it holds a record of that day or later, or the newest record.
 fn stops_at<M: Medium>(m: &M, newest: Option<Entry>, day: u16, page: usize) -> bool
-    requires { (page < pages (rows m.now)) × (told entry_of newest ≡ newest_of (rows m.now)) }
-    ensures { result ≡ stops_at (rows m.now) day page }
+    requires { (page < pages (M.rows m.now)) × (told entry_of newest ≡ newest_of (M.rows m.now)) }
+    ensures { result ≡ stops_at (M.rows m.now) day page }
 {
     dated_from(m, day, page) || is_newest_page(newest, page)
 }
 
 /// These pages, and one more unless it is blank.
 fn with_unless_blank<M: Medium>(m: &M, found: Pages, page: usize) -> Pages
-    requires { (page < pages (rows m.now)) × (found.len < 64) }
-    ensures pages { pages_of result ≡ (if all_blank (rows m.now) (rows_of page) then pages_of found else pages_of found ++ (page ∷ [])) }
+    requires { (page < pages (M.rows m.now)) × (found.len < 64) }
+    ensures pages { pages_of result ≡ (if all_blank (M.rows m.now) (rows_of page) then pages_of found else pages_of found ++ (page ∷ [])) }
     ensures len { result.len ≤ found.len + 1 }
 {
     if all_blank(m, page) {
@@ -81,7 +81,7 @@ fn with_unless_blank<M: Medium>(m: &M, found: Pages, page: usize) -> Pages
 
 /// The pages that a release for a day erases.
 pub fn released_pages<M: Medium>(m: &M, day: u16) -> Pages
-    ensures { pages_of result ≡ released_pages (rows m.now) day }
+    ensures { pages_of result ≡ released_pages (M.rows m.now) day }
 {
     let latest = newest(m);
     let first = first_page(m, latest);
@@ -99,8 +99,8 @@ pub fn released_pages<M: Medium>(m: &M, day: u16) -> Pages
 
 /// Erases the pages of a release for a day, one write each; answers how many.
 pub fn release<M: Medium>(m: &mut M, day: u16) -> usize
-    ensures says { releases (rows m.old) (count m.old) day ≡ (result, rows m.new, count m.new) }
-    ensures lender { lender m.new ≡ lender m.old }
+    ensures says { releases (M.rows m.old) (M.count m.old) day ≡ (result, M.rows m.new, M.count m.new) }
+    ensures lender { M.lender m.new ≡ M.lender m.old }
 {
     let found = released_pages(&*m, day);
     for i in 0..found.len {

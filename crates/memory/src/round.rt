@@ -12,8 +12,8 @@ use media::Medium;
 
 /// The page that the round starts with: the one after the newest record's, or page 0.
 pub(crate) fn first_page<M: Medium>(m: &M, latest: Option<Entry>) -> usize
-    requires { told entry_of latest ≡ newest (rows m.now) }
-    ensures { result ≡ first_page (newest (rows m.now)) }
+    requires { told entry_of latest ≡ newest (M.rows m.now) }
+    ensures { result ≡ first_page (newest (M.rows m.now)) }
 {
     match latest {
         Some(entry) => entry.row / 16 + 1,
@@ -23,8 +23,8 @@ pub(crate) fn first_page<M: Medium>(m: &M, latest: Option<Entry>) -> usize
 
 /// The row that the round starts with.
 pub(crate) fn first_row<M: Medium>(m: &M, latest: Option<Entry>) -> usize
-    requires { told entry_of latest ≡ newest (rows m.now) }
-    ensures { result ≡ start (rows m.now) }
+    requires { told entry_of latest ≡ newest (M.rows m.now) }
+    ensures { result ≡ start (M.rows m.now) }
 {
     first_page(m, latest) * 16
 }

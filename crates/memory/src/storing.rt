@@ -54,9 +54,9 @@ fn record_after(latest: Option<Entry>, weighing: Weighing) -> Result<Record, Mem
 
 /// Programs a record into the next row, which is one write.
 fn write<M: Medium>(m: &mut M, row: usize, weighed: Record) -> Result<(), MemoryFault>
-    requires { (next_row (rows m.old) ≡ some row) × (lawful (record_of weighed) ≡ true) }
-    ensures says { writes_record (rows m.old) (count m.old) row (record_of weighed) ≡ (outcome result, rows m.new, count m.new) }
-    ensures lender { lender m.new ≡ lender m.old }
+    requires { (next_row (M.rows m.old) ≡ some row) × (lawful (record_of weighed) ≡ true) }
+    ensures says { writes_record (M.rows m.old) (M.count m.old) row (record_of weighed) ≡ (outcome result, M.rows m.new, M.count m.new) }
+    ensures lender { M.lender m.new ≡ M.lender m.old }
 {
     // a lawful record has a row
     let packed = weighed.pack().unwrap();
@@ -68,8 +68,8 @@ fn write<M: Medium>(m: &mut M, row: usize, weighed: Record) -> Result<(), Memory
 
 /// Stores a weighing under the next number, in the next row, which is one write; answers the number.
 pub fn store<M: Medium>(m: &mut M, weighing: Weighing) -> Result<u32, MemoryFault>
-    ensures says { stores (rows m.old) (count m.old) (weighing_of weighing) ≡ (store_told result, (rows m.new, count m.new)) }
-    ensures lender { lender m.new ≡ lender m.old }
+    ensures says { stores (M.rows m.old) (M.count m.old) (weighing_of weighing) ≡ (store_told result, (M.rows m.new, M.count m.new)) }
+    ensures lender { M.lender m.new ≡ M.lender m.old }
 {
     let latest = check_order(&*m)?;
     let weighed = record_after(latest, weighing)?;

@@ -14,7 +14,7 @@ use media::Medium;
 impl<M: Medium> Terminal<M> {
     /// Takes a load of the cell.
     pub fn sample(&mut self, load: Tenths) -> Result<(), IndicatorFault>
-        ensures says { acts (a_sample load.0) (world rows count self.old) ≡ (answer result, world rows count self.new) }
+        ensures says { acts (a_sample load.0) (world M.rows M.count self.old) ≡ (answer result, world M.rows M.count self.new) }
         ensures medium { self.new.medium ≡ self.old.medium }
     {
         self.indicator.sample(load)
@@ -22,7 +22,7 @@ impl<M: Medium> Terminal<M> {
 
     /// Makes the mean of a full and stable window the zero.
     pub fn set_zero(&mut self) -> Result<(), IndicatorFault>
-        ensures says { acts (a_key set_zero) (world rows count self.old) ≡ (answer result, world rows count self.new) }
+        ensures says { acts (a_key set_zero) (world M.rows M.count self.old) ≡ (answer result, world M.rows M.count self.new) }
         ensures medium { self.new.medium ≡ self.old.medium }
     {
         self.indicator.set_zero()
@@ -30,7 +30,7 @@ impl<M: Medium> Terminal<M> {
 
     /// Makes the gross weight the tare.
     pub fn take_tare(&mut self) -> Result<(), IndicatorFault>
-        ensures says { acts (a_key take_tare) (world rows count self.old) ≡ (answer result, world rows count self.new) }
+        ensures says { acts (a_key take_tare) (world M.rows M.count self.old) ≡ (answer result, world M.rows M.count self.new) }
         ensures medium { self.new.medium ≡ self.old.medium }
     {
         self.indicator.take_tare()
@@ -38,7 +38,7 @@ impl<M: Medium> Terminal<M> {
 
     /// Sets a tare by hand.
     pub fn preset_tare(&mut self, value: Intervals) -> Result<(), IndicatorFault>
-        ensures says { acts (a_key (preset_tare value.0)) (world rows count self.old) ≡ (answer result, world rows count self.new) }
+        ensures says { acts (a_key (preset_tare value.0)) (world M.rows M.count self.old) ≡ (answer result, world M.rows M.count self.new) }
         ensures medium { self.new.medium ≡ self.old.medium }
     {
         self.indicator.preset_tare(value)
@@ -46,7 +46,7 @@ impl<M: Medium> Terminal<M> {
 
     /// Unsets the tare.
     pub fn clear_tare(&mut self) -> Result<(), IndicatorFault>
-        ensures says { acts (a_key clear_tare) (world rows count self.old) ≡ (answer result, world rows count self.new) }
+        ensures says { acts (a_key clear_tare) (world M.rows M.count self.old) ≡ (answer result, world M.rows M.count self.new) }
         ensures medium { self.new.medium ≡ self.old.medium }
     {
         self.indicator.clear_tare()
@@ -60,7 +60,7 @@ impl<M: Medium> Terminal<M> {
         typed: &[u8],
         unit_price: u32,
     ) -> Result<Claim, IndicatorFault>
-        ensures says { acts (a_weigh (entered day minute typed.now unit_price)) (world rows count self.old) ≡ (answer result, world rows count self.new) }
+        ensures says { acts (a_weigh (entered day minute typed.now unit_price)) (world M.rows M.count self.old) ≡ (answer result, world M.rows M.count self.new) }
         ensures medium { self.new.medium ≡ self.old.medium }
     {
         match self.indicator.weigh(day, minute, typed, unit_price) {
@@ -71,7 +71,7 @@ impl<M: Medium> Terminal<M> {
 
     /// Gives up the weighing that is pending.
     pub fn void(&mut self, claim: Claim)
-        ensures says { acts a_void (world rows count self.old) ≡ (done, world rows count self.new) }
+        ensures says { acts a_void (world M.rows M.count self.old) ≡ (done, world M.rows M.count self.new) }
         ensures medium { self.new.medium ≡ self.old.medium }
     {
         let Claim(_) = claim;

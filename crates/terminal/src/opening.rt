@@ -24,7 +24,7 @@ impl<M: Medium> Terminal<M> {
     /// (`confirms`); the number of a record that is found prints its line, which is confirmed (`prints`); on a blank medium a
     /// lawful record is stored (`accepts`).
     pub fn open(medium: M, settings: Settings) -> Terminal<M>
-        ensures opens { (on : Option TheIndicator) → acts (opening (settings_of settings)) (world_with rows count medium on) ≡ (done, world rows count result) }
+        ensures opens { (on : Option TheIndicator) → acts (opening (settings_of settings)) (world_with rows count medium on) ≡ (done, world M.rows M.count result) }
         ensures passed { Passed (settings_of settings) }
         ensures medium { result.medium ≡ medium }
         ensures law { KeepsRecords }
@@ -40,7 +40,7 @@ impl<M: Medium> Terminal<M> {
 
     /// Opens again over the same medium, as it then is: all but the medium is lost, a weighing that is pending included.
     pub fn reopen(&mut self, settings: Settings)
-        ensures opens { acts (opening (settings_of settings)) (world rows count self.old) ≡ (done, world rows count self.new) }
+        ensures opens { acts (opening (settings_of settings)) (world M.rows M.count self.old) ≡ (done, world M.rows M.count self.new) }
         ensures passed { Passed (settings_of settings) }
         ensures medium { self.new.medium ≡ self.old.medium }
     {

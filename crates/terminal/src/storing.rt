@@ -28,7 +28,7 @@ fn is_before(day: u16, latest: Option<Entry>) -> bool
 impl<M: Medium> Terminal<M> {
     /// Stores the weighing that is pending, under the number that is answered. A refusal hands the claim back.
     pub fn store(&mut self, claim: Claim) -> Result<u32, (Claim, StoreFault)>
-        ensures says { acts a_store (world rows count self.old) ≡ (store_answer result, world rows count self.new) }
+        ensures says { acts a_store (world M.rows M.count self.old) ≡ (store_answer result, world M.rows M.count self.new) }
         ensures lender { lender self.new.medium ≡ lender self.old.medium }
     {
         let Some(weighing) = self.indicator.pending() else {
@@ -46,8 +46,8 @@ impl<M: Medium> Terminal<M> {
 
     /// Writes the ticket line of a record into the first 76 bytes of a buffer.
     pub fn print(&self, number: u32, out: &mut [u8]) -> Result<(), StoreFault>
-        ensures says { acts (a_print number (length out.old)) (world rows count self.now) ≡ (print_answer (take 76 out.new) result, world rows count self.now) }
-        ensures buffer { out.new ≡ buffer_after (acts (a_print number (length out.old)) (world rows count self.now)).0 out.old }
+        ensures says { acts (a_print number (length out.old)) (world M.rows M.count self.now) ≡ (print_answer (take 76 out.new) result, world M.rows M.count self.now) }
+        ensures buffer { out.new ≡ buffer_after (acts (a_print number (length out.old)) (world M.rows M.count self.now)).0 out.old }
     {
         if out.len() < 76 {
             return Err(StoreFault::ShortBuffer);
@@ -63,7 +63,7 @@ impl<M: Medium> Terminal<M> {
 
     /// Confirms a ticket line: it is the line of the record whose number it begins with.
     pub fn verify(&self, text: &[u8]) -> Result<(), StoreFault>
-        ensures { acts (a_verify text.now) (world rows count self.now) ≡ (verify_answer result, world rows count self.now) }
+        ensures { acts (a_verify text.now) (world M.rows M.count self.now) ≡ (verify_answer result, world M.rows M.count self.now) }
     {
         let Some(number) = line_number(text) else {
             return Err(StoreFault::NoLine);
@@ -81,7 +81,7 @@ impl<M: Medium> Terminal<M> {
     /// Erases the old pages of the memory, up to the first with a record of the day or later; answers how many.
     /// The day must lie a keeping time before today: 90 days if none is given.
     pub fn release(&mut self, day: u16, today: u16, keep: Option<u16>) -> Result<usize, StoreFault>
-        ensures says { acts (a_release (asked day today keep)) (world rows count self.old) ≡ (release_answer result, world rows count self.new) }
+        ensures says { acts (a_release (asked day today keep)) (world M.rows M.count self.old) ≡ (release_answer result, world M.rows M.count self.new) }
         ensures lender { lender self.new.medium ≡ lender self.old.medium }
     {
         let days = match keep {

@@ -24,7 +24,7 @@ stops_at-requires g c =
     let shape = g.M.Medium.shape c.args.m.now in
     let fits = first_fits rows c.args.day shape.pages shape.whole in
     let within = along_inside c.first_page-first.result c.size-size.result c.loop-k.k (omega (arith, fits, c.first_page-first.ensures, c.size-size.ensures)) c.loop-k-test.true in
-    (omega (arith, within, c.place_along-page.ensures, c.size-size.ensures), c.newest_latest.ensures)
+    (omega (arith, within, c.place_along-page.ensures, c.size-size.ensures), c.newest-latest.ensures)
 
 pub returns-then-stops_at : goal.returns-then-stops_at
 returns-then-stops_at g c =

@@ -12,24 +12,24 @@ less n h = omega (arith, ints)
 more : (n : ℕ) → n < 1000000000 → to_z w32 n ≡ pos n
 more n h = omega (arith, ints)
 
-pub returns-in_err-size : goal.returns-in_err-size
-returns-in_err-size c =
+pub returns-in_err-size-in-45 : goal.returns-in_err-size-in-45
+returns-in_err-size-in-45 c =
     ap (told (λ z. z)) c.from_residual.ensures ∙ sym (minus_load c.args.word.now none (omega (arith, ltb-true, ltb-false, eqb-true, eqb-false)) (omega (arith, ltb-true, ltb-false, eqb-true, eqb-false)) c.in_err-size.ensures.value)
 
-pub returns-in_ok-size : goal.returns-in_ok-size
-returns-in_ok-size c =
+pub returns-in_ok-size-in-45 : goal.returns-in_ok-size-in-45
+returns-in_ok-size-in-45 c =
     let n = c.in_ok-size.size in
     ap some (less n c.in_ok-size.ensures.small)
     ∙ sym (minus_load c.args.word.now (some n) (omega (arith, ltb-true, ltb-false, eqb-true, eqb-false)) (omega (arith, ltb-true, ltb-false, eqb-true, eqb-false)) c.in_ok-size.ensures.value)
 
-pub returns-in_err-size-2 : goal.returns-in_err-size-2
-returns-in_err-size-2 c =
+pub returns-in_err-size-in_default : goal.returns-in_err-size-in_default
+returns-in_err-size-in_default c =
     let word = c.args.word.now in
     let plain : 0 < length word → get_or word 0 0 ≡ 45 → ⊥ = λ h e. omega (arith, ltb-true, ltb-false, eqb-true, eqb-false) in
     ap (told (λ z. z)) c.from_residual-in_err-size-2.ensures ∙ sym (plain_load word none plain c.in_err-size-2.ensures.value)
 
-pub returns-in_ok-size-2 : goal.returns-in_ok-size-2
-returns-in_ok-size-2 c =
+pub returns-in_ok-size-in_default : goal.returns-in_ok-size-in_default
+returns-in_ok-size-in_default c =
     let word = c.args.word.now in
     let n = c.in_ok-size-2.size in
     let plain : 0 < length word → get_or word 0 0 ≡ 45 → ⊥ = λ h e. omega (arith, ltb-true, ltb-false, eqb-true, eqb-false) in
