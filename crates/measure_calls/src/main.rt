@@ -2,6 +2,8 @@
 //! Arguments: the call (store, print, verify, release or none), the kind of medium (flash or sectors), and the number of pages.
 //! It writes what was answered. The instructions of a call are those of its run less those of the run with none.
 
+#![tactic(auto)]
+
 use anyhow::anyhow;
 use loads::{Interval, Settings, Tenths};
 use media::{Flash, Medium, Sectors, check_bytes};

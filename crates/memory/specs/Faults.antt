@@ -1,10 +1,10 @@
 -- The faults of a memory by number and place, and what its calls say
 use Rattle.std.proofs.Math.Option.{Option, none, some}
-use Rattle.std.specs.Prelude.{ℕ, Ok, Err, Option as CodeOption, Result}
+use Rattle.std.specs.Prelude.{ℕ, List, Ok, Err, Option as CodeOption, Result, slice_set}
 use Rattle.rules.specs.Lists.{when_some, told}
 use Rattle.rules.specs.Records.{Record as TheRecord}
-use Rattle.rules.specs.Memory.{Rows, newest, find, disorder}
-use Rattle.rules.specs.Media.{Outcome, accepted, refused}
+use Rattle.rules.specs.Memory.{Rows, newest, find, disorder, next_row}
+use Rattle.rules.specs.Media.{Outcome, accepted, refused, one_more}
 use Rattle.records.specs.declared.record.Record.{Record}
 use Rattle.records.specs.RecordsOf.{record_of}
 use Rattle.media.specs.Outcomes.{fault_number as medium_number, fault_place as medium_place}
@@ -64,3 +64,11 @@ found (Err e) = none
 abbrev pub last_kept : Result (CodeOption Record) MemoryFault → Option TheRecord
 last_kept (Ok r) = told record_of r
 last_kept (Err e) = none
+
+-- a packed record goes to the next row: the outcome, that row, and what rows and count are then
+abbrev pub appends : Rows → (writes : ℕ) (packed : List ℕ) → Outcome × Option ℕ × Rows × ℕ
+appends rows writes packed = when_some (next_row rows) (refused 24 0, none, rows, writes) (λ i. (accepted, some i, slice_set rows i packed, one_more writes))
+
+abbrev pub row_told : Result ℕ MemoryFault → Option ℕ
+row_told (Ok row) = some row
+row_told (Err e) = none

@@ -9,7 +9,7 @@ ghost use Rattle.memory.specs.Faults.{outcome, finds, looks_up, found as record_
 
 use crate::entry::Entry;
 use crate::fault::MemoryFault;
-use crate::order::check_order;
+use crate::order::newest_in_order;
 use crate::reading::{entry_at, newest};
 use crate::round::{first_row, place_along};
 use media::Medium;
@@ -56,16 +56,16 @@ fn find_from<M: Medium>(m: &M, first: usize, number: u64) -> Result<Record, Memo
 }
 
 /// The intact record with that number.
-pub fn find<M: Medium>(m: &M, number: u64) -> Result<Record, MemoryFault>
+pub fn find<M: Medium>(m: &M, number: u32) -> Result<Record, MemoryFault>
     ensures { finds (M.rows m.now) number ≡ (outcome result, record_found result) }
 {
-    find_from(m, first_row(m, newest(m)), number)
+    find_from(m, first_row(m, newest(m)), u64::from(number))
 }
 
 /// The intact record with that number, in a memory in order.
 pub fn look_up<M: Medium>(m: &M, number: u64) -> Result<Record, MemoryFault>
     ensures { looks_up (M.rows m.now) number ≡ (outcome result, record_found result) }
 {
-    let latest = check_order(m)?;
+    let latest = newest_in_order(m)?;
     find_from(m, first_row(m, latest), number)
 }

@@ -1,5 +1,7 @@
 //! The alibi memory over any medium: where a record goes, where it is found again, and what a release erases.
 
+#![tactic(auto)]
+
 mod entry;
 mod fault;
 mod finding;
@@ -16,8 +18,8 @@ pub use entry::Entry;
 pub use fault::MemoryFault;
 pub use finding::{find, look_up, next_number};
 pub use next::next_row;
-pub use order::check_order;
+pub use order::{check_order, newest_in_order};
 pub use pages::Pages;
 pub use reading::newest;
 pub use releasing::{release, released_pages};
-pub use storing::store;
+pub use storing::{append, store};

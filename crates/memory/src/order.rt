@@ -52,10 +52,17 @@ fn check_from<M: Medium>(m: &M, first: usize) -> Result<(), MemoryFault>
 }
 
 /// Checks that the records rise along the round; answers the newest.
-pub fn check_order<M: Medium>(m: &M) -> Result<Option<Entry>, MemoryFault>
+pub fn newest_in_order<M: Medium>(m: &M) -> Result<Option<Entry>, MemoryFault>
     ensures { (outcome result, newest_told result) ≡ checks (M.rows m.now) }
 {
     let latest = newest(m);
     check_from(m, first_row(m, latest))?;
     Ok(latest)
+}
+
+/// Checks that the records rise along the round, in number and in stamp.
+pub fn check_order<M: Medium>(m: &M) -> Result<(), MemoryFault>
+    ensures { outcome result ≡ orders (M.rows m.now) }
+{
+    check_from(m, first_row(m, newest(m)))
 }

@@ -43,8 +43,9 @@ pub(crate) fn free_in<M: Medium>(m: &M, page: usize) -> Option<usize>
     ensures { told (λ i. i) result ≡ free_in (M.rows m.now) page }
 {
     for i in (0..16).rev() {
-        if !is_blank_at(m, page * 16 + i) {
-            return if_in_page(page, page * 16 + i + 1);
+        let row = page * 16 + i;
+        if !is_blank_at(m, row) {
+            return if_in_page(page, row + 1);
         }
     }
     Some(page * 16)

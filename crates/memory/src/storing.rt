@@ -8,13 +8,13 @@ ghost use Rattle.rules.specs.Memory.{next_row};
 ghost use Rattle.records.specs.RecordsOf.{record_of};
 ghost use Rattle.records.specs.WeighingsOf.{weighing_of};
 ghost use Rattle.memory.specs.Entries.{entry_of};
-ghost use Rattle.memory.specs.Faults.{outcome, found as record_found};
+ghost use Rattle.memory.specs.Faults.{outcome, found as record_found, appends, row_told};
 ghost use Rattle.memory.specs.Stores.{is_earlier, number_left, follows, writes_record, stores, store_told};
 
 use crate::entry::Entry;
 use crate::fault::MemoryFault;
-use crate::next::next_row_after;
-use crate::order::check_order;
+use crate::next::{next_row, next_row_after};
+use crate::order::newest_in_order;
 use media::Medium;
 use records::{Record, Weighing};
 
@@ -71,11 +71,25 @@ pub fn store<M: Medium>(m: &mut M, weighing: Weighing) -> Result<u32, MemoryFaul
     ensures says { stores (M.rows m.old) (M.count m.old) (weighing_of weighing) ≡ (store_told result, (M.rows m.new, M.count m.new)) }
     ensures lender { M.lender m.new ≡ M.lender m.old }
 {
-    let latest = check_order(&*m)?;
+    let latest = newest_in_order(&*m)?;
     let weighed = record_after(latest, weighing)?;
     let Some(row) = next_row_after(&*m, latest) else {
         return Err(MemoryFault::Full);
     };
     write(m, row, weighed)?;
     Ok(weighed.number)
+}
+
+/// Programs a packed record into the next row, which is one write; answers that row.
+pub fn append<M: Medium>(m: &mut M, packed: &[u8; 32]) -> Result<usize, MemoryFault>
+    ensures says { appends (M.rows m.old) (M.count m.old) packed.now ≡ (outcome result, row_told result, M.rows m.new, M.count m.new) }
+    ensures lender { M.lender m.new ≡ M.lender m.old }
+{
+    let Some(row) = next_row(&*m) else {
+        return Err(MemoryFault::Full);
+    };
+    match m.program(row, packed) {
+        Ok(()) => Ok(row),
+        Err(_) => Err(MemoryFault::Full),
+    }
 }

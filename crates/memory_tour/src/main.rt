@@ -1,5 +1,7 @@
 //! Fills a small memory past its end on flash and on sectors, releases, fills again, and writes what is found after each step.
 
+#![tactic(auto)]
+
 use loads::Interval;
 use media::{Flash, Medium, Sectors};
 use memory::{check_order, look_up, newest, next_number, next_row, release, store};

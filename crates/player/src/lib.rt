@@ -1,5 +1,7 @@
 //! Replays the lines of a trace over a terminal, and gives what each line writes.
 
+#![tactic(auto)]
+
 mod beginning;
 mod body;
 mod play;

@@ -1,5 +1,7 @@
 //! Replays a trace from standard input over a terminal, and writes what its lines write.
 
+#![tactic(auto)]
+
 ghost use Rattle.std.specs.Prelude.{◌≤◌, length, IfOk};
 
 use player::replay;

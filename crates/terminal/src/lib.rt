@@ -1,5 +1,7 @@
 //! A weighbridge terminal over its alibi memory, on any medium.
 
+#![tactic(auto)]
+
 mod body;
 mod claim;
 mod fault;

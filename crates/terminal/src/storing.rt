@@ -12,7 +12,7 @@ use crate::claim::Claim;
 use crate::fault::StoreFault;
 use crate::lines::{difference, fill};
 use media::Medium;
-use memory::{Entry, check_order, look_up};
+use memory::{Entry, look_up, newest_in_order};
 use records::line_number;
 
 /// Whether a day is before that of the newest record.
@@ -91,7 +91,7 @@ impl<M: Medium> Terminal<M> {
         if days < 90 || days > 400 {
             return Err(StoreFault::KeepingTime);
         }
-        let latest = match check_order(&self.medium) {
+        let latest = match newest_in_order(&self.medium) {
             Ok(latest) => latest,
             Err(fault) => return Err(StoreFault::Memory(fault)),
         };

@@ -2,6 +2,8 @@
 //!
 //! A `Reader` walks over the caller's bytes and hands out one `Item` for each line. It copies nothing: a mark in an item is a part of those bytes.
 
+#![tactic(auto)]
+
 mod command;
 mod fault;
 mod fields;

@@ -1,5 +1,7 @@
 //! Weighs one lorry on flash and on sectors, from the opening to the ticket, and writes what it does line by line.
 
+#![tactic(auto)]
+
 use indicator::IndicatorFault;
 use loads::{Intervals, Settings, Tenths};
 use media::{Flash, Medium, Sectors};
