@@ -20,7 +20,7 @@ use trace::{Command, Item};
 
 /// Prints the ticket of a number.
 fn print<M: Medium>(terminal: &Terminal<M>, line: usize, number: u32) -> Reply
-    ensures { bytes_of result ≡ reply_to line (acts (a_print number 76) (world rows count terminal.now)).0 }
+    ensures { bytes_of result ≡ reply_to line (acts (a_print number 76) (world M.rows M.count terminal.now)).0 }
 {
     let mut ticket = [0; 76];
     match terminal.print(number, &mut ticket) {
@@ -38,7 +38,7 @@ fn weigh_out<M: Medium>(
     mark: &[u8],
     unit_price: u32,
 ) -> Reply
-    ensures { replied line (weighs_out (entered day minute mark.now unit_price) (world rows count terminal.old)) ≡ (bytes_of result, world rows count terminal.new) }
+    ensures { replied line (weighs_out (entered day minute mark.now unit_price) (world M.rows M.count terminal.old)) ≡ (bytes_of result, world M.rows M.count terminal.new) }
 {
     match terminal.weigh(day, minute, mark, unit_price) {
         Ok(claim) => match terminal.store(claim) {
@@ -55,7 +55,7 @@ fn weigh_out<M: Medium>(
 impl<M: Medium> Player<M> {
     /// Opens a terminal over a medium, to play the lines that follow.
     pub fn open(medium: M, settings: Settings) -> Player<M>
-        ensures { (on : Option TheIndicator) → playing rows count result ≡ running (settings_of settings) (acts (opening (settings_of settings)) (world_with rows count medium on)).1 }
+        ensures { (on : Option TheIndicator) → playing M.rows M.count result ≡ running (settings_of settings) (acts (opening (settings_of settings)) (world_with M.rows M.count medium on)).1 }
     {
         Player {
             terminal: Terminal::open(medium, settings),
@@ -65,7 +65,7 @@ impl<M: Medium> Player<M> {
 
     /// Does what a line asks for.
     fn obey(&mut self, line: usize, command: Command<'_>) -> Reply
-        ensures says { replied line (does (settings_of self.old.settings) (world rows count self.old.terminal) (command_meaning command.entry)) ≡ (bytes_of result, world rows count self.new.terminal) }
+        ensures says { replied line (does (settings_of self.old.settings) (world M.rows M.count self.old.terminal) (command_meaning command.entry)) ≡ (bytes_of result, world M.rows M.count self.new.terminal) }
         ensures settings { self.new.settings ≡ self.old.settings }
     {
         let terminal = &mut self.terminal;
@@ -97,7 +97,7 @@ impl<M: Medium> Player<M> {
 
     /// Plays a line, and gives what it writes.
     pub fn play(&mut self, item: Item<'_>) -> Reply
-        ensures { plays (playing rows count self.old) item.entry.line (reading item.entry.asks) ≡ (bytes_of result, playing rows count self.new) }
+        ensures { plays (playing M.rows M.count self.old) item.entry.line (reading item.entry.asks) ≡ (bytes_of result, playing M.rows M.count self.new) }
     {
         match item.asks {
             Ok(command) => self.obey(item.line, command),

@@ -32,7 +32,7 @@ fn play_all<M: Medium>(
     reader: &mut Reader<'_>,
     out: &mut Vec<u8>,
 ) -> Result<(), AllocError>
-    ensures { OnOk result (out.new.items ≡ out.old.items ++ writes_from (playing rows count player.old) (standing reader.old).0 (standing reader.old).1) }
+    ensures { OnOk result (out.new.items ≡ out.old.items ++ writes_from (playing M.rows M.count player.old) (standing reader.old).0 (standing reader.old).1) }
 {
     while let Some(item) = reader.next_item() {
         write_reply(out, player.play(item))?;
@@ -47,7 +47,7 @@ fn play_blank<M: Medium + Drop>(
     reader: &mut Reader<'_>,
     out: &mut Vec<u8>,
 ) -> Result<(), AllocError>
-    requires { (rows medium ≡ replicate 128 blank_row) × (count medium ≡ 0) }
+    requires { (M.rows medium ≡ replicate 128 blank_row) × (M.count medium ≡ 0) }
     ensures { OnOk result (out.new.items ≡ out.old.items ++ writes_from (opened settings) (standing reader.old).0 (standing reader.old).1) }
 {
     let mut player = Player::open(medium, settings);

@@ -24,7 +24,7 @@ impl<M: Medium> Terminal<M> {
     /// (`confirms`); the number of a record that is found prints its line, which is confirmed (`prints`); on a blank medium a
     /// lawful record is stored (`accepts`).
     pub fn open(medium: M, settings: Settings) -> Terminal<M>
-        ensures opens { (on : Option TheIndicator) → acts (opening (settings_of settings)) (world_with rows count medium on) ≡ (done, world M.rows M.count result) }
+        ensures opens { (on : Option TheIndicator) → acts (opening (settings_of settings)) (world_with M.rows M.count medium on) ≡ (done, world M.rows M.count result) }
         ensures passed { Passed (settings_of settings) }
         ensures medium { result.medium ≡ medium }
         ensures law { KeepsRecords }

@@ -29,7 +29,7 @@ impl<M: Medium> Terminal<M> {
     /// Stores the weighing that is pending, under the number that is answered. A refusal hands the claim back.
     pub fn store(&mut self, claim: Claim) -> Result<u32, (Claim, StoreFault)>
         ensures says { acts a_store (world M.rows M.count self.old) ≡ (store_answer result, world M.rows M.count self.new) }
-        ensures lender { lender self.new.medium ≡ lender self.old.medium }
+        ensures lender { M.lender self.new.medium ≡ M.lender self.old.medium }
     {
         let Some(weighing) = self.indicator.pending() else {
             return Err((claim, StoreFault::NothingPending));
@@ -82,7 +82,7 @@ impl<M: Medium> Terminal<M> {
     /// The day must lie a keeping time before today: 90 days if none is given.
     pub fn release(&mut self, day: u16, today: u16, keep: Option<u16>) -> Result<usize, StoreFault>
         ensures says { acts (a_release (asked day today keep)) (world M.rows M.count self.old) ≡ (release_answer result, world M.rows M.count self.new) }
-        ensures lender { lender self.new.medium ≡ lender self.old.medium }
+        ensures lender { M.lender self.new.medium ≡ M.lender self.old.medium }
     {
         let days = match keep {
             Some(days) => days,

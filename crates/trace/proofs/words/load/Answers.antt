@@ -5,6 +5,7 @@ use Rattle.std.proofs.lemmas.Int.{ints}
 use Rattle.rules.specs.Lists.{told}
 use Rattle.trace.proofs.WordsRead.{minus_load, plain_load}
 use Rattle.trace.proofs.words.load.Goals as goal
+use Rattle.trace.proofs.words.load.Goals.{in_default-via-then-word-lt1, in_default-via-else-word-lt1+in_default-1}
 
 less : (n : ℕ) → n < 1000000000 → to_z w32 (of_z w32 (pos 0 -ℤ to_z w32 n)) ≡ neg_ℤ (pos n)
 less n h = omega (arith, ints)
@@ -14,23 +15,29 @@ more n h = omega (arith, ints)
 
 pub returns-in_err-size-in-45 : goal.returns-in_err-size-in-45
 returns-in_err-size-in-45 c =
-    ap (told (λ z. z)) c.from_residual.ensures ∙ sym (minus_load c.args.word.now none (omega (arith, ltb-true, ltb-false, eqb-true, eqb-false)) (omega (arith, ltb-true, ltb-false, eqb-true, eqb-false)) c.in_err-size.ensures.value)
+    ap (told (λ z. z)) c.from_residual.ensures ∙ sym (minus_load c.args.word.now none (omega (arith, ltb-true, ltb-false, eqb-true, eqb-false)) (omega (arith, ltb-true, ltb-false, eqb-true, eqb-false)) c.in_err-size-in-45.ensures.value)
 
 pub returns-in_ok-size-in-45 : goal.returns-in_ok-size-in-45
 returns-in_ok-size-in-45 c =
-    let n = c.in_ok-size.size in
-    ap some (less n c.in_ok-size.ensures.small)
-    ∙ sym (minus_load c.args.word.now (some n) (omega (arith, ltb-true, ltb-false, eqb-true, eqb-false)) (omega (arith, ltb-true, ltb-false, eqb-true, eqb-false)) c.in_ok-size.ensures.value)
+    let n = c.in_ok-size-in-45.size in
+    ap some (less n c.in_ok-size-in-45.ensures.small)
+    ∙ sym (minus_load c.args.word.now (some n) (omega (arith, ltb-true, ltb-false, eqb-true, eqb-false)) (omega (arith, ltb-true, ltb-false, eqb-true, eqb-false)) c.in_ok-size-in-45.ensures.value)
 
 pub returns-in_err-size-in_default : goal.returns-in_err-size-in_default
 returns-in_err-size-in_default c =
     let word = c.args.word.now in
-    let plain : 0 < length word → get_or word 0 0 ≡ 45 → ⊥ = λ h e. omega (arith, ltb-true, ltb-false, eqb-true, eqb-false) in
-    ap (told (λ z. z)) c.from_residual-in_err-size-2.ensures ∙ sym (plain_load word none plain c.in_err-size-2.ensures.value)
+    let plain : 0 < length word → get_or word 0 0 ≡ 45 → ⊥ = elim c.in_default.branch [
+      | in_default-via-then-word-lt1 w ↦ λ h e. omega (arith, ltb-true, ltb-false, eqb-true, eqb-false)
+      | in_default-via-else-word-lt1+in_default-1 w ↦ λ h e. omega (arith, ltb-true, ltb-false, eqb-true, eqb-false)
+    ] in
+    ap (told (λ z. z)) c.from_residual-in_err-size-in_default.ensures ∙ sym (plain_load word none plain c.in_err-size-in_default.ensures.value)
 
 pub returns-in_ok-size-in_default : goal.returns-in_ok-size-in_default
 returns-in_ok-size-in_default c =
     let word = c.args.word.now in
-    let n = c.in_ok-size-2.size in
-    let plain : 0 < length word → get_or word 0 0 ≡ 45 → ⊥ = λ h e. omega (arith, ltb-true, ltb-false, eqb-true, eqb-false) in
-    ap some (more n c.in_ok-size-2.ensures.small) ∙ sym (plain_load word (some n) plain c.in_ok-size-2.ensures.value)
+    let n = c.in_ok-size-in_default.size in
+    let plain : 0 < length word → get_or word 0 0 ≡ 45 → ⊥ = elim c.in_default.branch [
+      | in_default-via-then-word-lt1 w ↦ λ h e. omega (arith, ltb-true, ltb-false, eqb-true, eqb-false)
+      | in_default-via-else-word-lt1+in_default-1 w ↦ λ h e. omega (arith, ltb-true, ltb-false, eqb-true, eqb-false)
+    ] in
+    ap some (more n c.in_ok-size-in_default.ensures.small) ∙ sym (plain_load word (some n) plain c.in_ok-size-in_default.ensures.value)
