@@ -14,7 +14,7 @@ returns-in-Ok c =
 pub loop-item-preserved : goal.loop-item-preserved
 loop-item-preserved c =
     let rest = writes_from unopened (standing c.next_item.new.self).0 (standing c.next_item.new.self).1 in
-    ap (λ z. z ++ rest) c.in_ok-write_reply.ensures ∙ append_assoc (vec_items c.loop-item.out) (bytes_of c.in-Err.reply) rest
+    ap (λ z. z ++ rest) c.in_ok-write_reply-in-Err.ensures ∙ append_assoc (vec_items c.loop-item.out) (bytes_of c.in-Err.reply) rest
     ∙ ap (λ z. vec_items c.loop-item.out ++ z) (sym (writes_line _ _ _ _ _ _ _ _ _ c.in-Some.ensures.item c.in-Err.ensures.says)) ∙ c.loop-item.invariant
 
 pub returns : goal.returns
