@@ -4,15 +4,16 @@
 
 use loads::Interval;
 use media::{Flash, Medium, Sectors};
-use memory::{check_order, look_up, newest, next_number, next_row, release, store};
-use records::{Mark, Record, Tare, Weighing, Weight};
+use memory::{append, check_order, find, newest, next_number, next_row, release};
+use records::{Mark, Record, Tare, Weight};
 use std::io;
 
-/// The weighing of a day; nothing where there is no lawful one.
-fn weighing_of(day: u16) -> Option<Weighing> {
+/// The packed record of a number and a day; nothing where there is no lawful one.
+fn packed(number: u64, day: u16) -> Option<[u8; 32]> {
+    let number = u32::try_from(number).ok()?;
     let mark = Mark::typed(b"KL4420").ok()?;
-    let entries = Record {
-        number: 0,
+    let weighing = Record {
+        number,
         day,
         minute: 615,
         interval: Interval::Twenty,
@@ -21,7 +22,7 @@ fn weighing_of(day: u16) -> Option<Weighing> {
         unit_price: 18555,
         mark,
     };
-    Weighing::of(entries).ok()
+    weighing.pack().ok()
 }
 
 /// Writes what is found in a memory.
@@ -36,7 +37,7 @@ fn tell<M: Medium>(rt: &HostRuntime, kind: &str, m: &M) -> io::Result<()> {
         None => println!(rt; "{kind}: no record")?,
     }
     match check_order(m) {
-        Ok(_) => println!(rt; "{kind}: in order")?,
+        Ok(()) => println!(rt; "{kind}: in order")?,
         Err(fault) => {
             let number = fault.number();
             let place = fault.place();
@@ -50,10 +51,10 @@ fn tell<M: Medium>(rt: &HostRuntime, kind: &str, m: &M) -> io::Result<()> {
     }
 }
 
-/// Looks some numbers up, and writes the days of their records.
+/// Looks for some numbers, and writes the days of their records.
 fn tell_found<M: Medium>(rt: &HostRuntime, kind: &str, m: &M) -> io::Result<()> {
-    for number in [1, 16, 17, 32, 48, 49, 4_294_967_313] {
-        match look_up(m, number) {
+    for number in [1, 16, 17, 32, 48, 49] {
+        match find(m, number) {
             Ok(found) => {
                 let day = found.day;
                 println!(rt; "{kind}: record {number} is of day {day}")?;
@@ -67,14 +68,14 @@ fn tell_found<M: Medium>(rt: &HostRuntime, kind: &str, m: &M) -> io::Result<()> 
     Ok(())
 }
 
-/// Stores weighings, one a day, until one is refused; answers the first day without a record.
+/// Stores records, one a day, until one is refused; answers the first day without a record.
 fn fill<M: Medium>(rt: &HostRuntime, kind: &str, m: &mut M, first: u16) -> io::Result<u16> {
     let mut day = first;
     for _ in 0..100 {
-        let Some(weighing) = weighing_of(day) else {
+        let Some(row) = packed(next_number(&*m), day) else {
             break;
         };
-        match store(m, weighing) {
+        match append(m, &row) {
             Ok(_) => day = day.saturating_add(1),
             Err(fault) => {
                 let number = fault.number();
@@ -98,8 +99,6 @@ fn tour<M: Medium>(rt: &HostRuntime, kind: &str, m: &mut M) -> io::Result<()> {
     }
     fill(rt, kind, m, next)?;
     tell(rt, kind, &*m)?;
-    // the same days once more: the first is earlier than the newest record's
-    fill(rt, kind, m, next)?;
     tell_found(rt, kind, &*m)?;
     let writes = m.writes();
     println!(rt; "{kind}: {writes} writes")
