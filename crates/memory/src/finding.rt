@@ -11,7 +11,7 @@ use crate::entry::Entry;
 use crate::fault::MemoryFault;
 use crate::order::newest_in_order;
 use crate::reading::{entry_at, newest};
-use crate::round::{first_row, place_along};
+use crate::round::{first_row, first_row_after, place_along};
 use media::Medium;
 use records::Record;
 
@@ -59,7 +59,7 @@ fn find_from<M: Medium>(m: &M, first: usize, number: u64) -> Result<Record, Memo
 pub fn find<M: Medium>(m: &M, number: u32) -> Result<Record, MemoryFault>
     ensures { finds (M.rows m.now) number ≡ (outcome result, record_found result) }
 {
-    find_from(m, first_row(m, newest(m)), u64::from(number))
+    find_from(m, first_row(m), u64::from(number))
 }
 
 /// The intact record with that number, in a memory in order.
@@ -67,5 +67,5 @@ pub fn look_up<M: Medium>(m: &M, number: u64) -> Result<Record, MemoryFault>
     ensures { looks_up (M.rows m.now) number ≡ (outcome result, record_found result) }
 {
     let latest = newest_in_order(m)?;
-    find_from(m, first_row(m, latest), number)
+    find_from(m, first_row_after(m, latest), number)
 }

@@ -9,7 +9,7 @@ ghost use Rattle.memory.specs.Faults.{outcome, orders, checks, newest_told, last
 use crate::entry::Entry;
 use crate::fault::MemoryFault;
 use crate::reading::{entry_at, newest};
-use crate::round::{first_row, place_along};
+use crate::round::{first_row, first_row_after, place_along};
 use media::Medium;
 use records::Record;
 
@@ -56,7 +56,7 @@ pub fn newest_in_order<M: Medium>(m: &M) -> Result<Option<Entry>, MemoryFault>
     ensures { (outcome result, newest_told result) ≡ checks (M.rows m.now) }
 {
     let latest = newest(m);
-    check_from(m, first_row(m, latest))?;
+    check_from(m, first_row_after(m, latest))?;
     Ok(latest)
 }
 
@@ -64,5 +64,5 @@ pub fn newest_in_order<M: Medium>(m: &M) -> Result<Option<Entry>, MemoryFault>
 pub fn check_order<M: Medium>(m: &M) -> Result<(), MemoryFault>
     ensures { outcome result ≡ orders (M.rows m.now) }
 {
-    check_from(m, first_row(m, newest(m)))
+    check_from(m, first_row(m))
 }

@@ -1,6 +1,6 @@
 use Rattle.std.proofs.Common.{arith}
 use Rattle.rules.proofs.Memories.{start_fits}
-use Rattle.memory.proofs.round.first_row.Goals as goal
+use Rattle.memory.proofs.round.first_row_after.Goals as goal
 
 pub overflow_mul-result : goal.overflow_mul-result
 overflow_mul-result g c =
