@@ -126,7 +126,7 @@ pub record WorkedLines : Type 0 where
       × (asked (codes "R 65536 1") ≡ none) × (asked (codes "R 1 65536") ≡ none)
   -- a mark may be any bytes but a space
   pub any_mark :
-      (asked (codes "W 1 2 a_b 3") ≡ some (to_weigh (record { day = 1; minute = 2; mark = codes "a_b"; unit_price = 3 })))
+      (asked (codes "W 1 2 a-b 3") ≡ some (to_weigh (record { day = 1; minute = 2; mark = codes "a-b"; unit_price = 3 })))
       × (asked (codes "W 1 2 A B 3") ≡ none)
   -- one space before each field, and nothing else
   pub spaces :

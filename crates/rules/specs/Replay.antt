@@ -4,7 +4,7 @@ use Rattle.std.proofs.Math.Option.{none}
 use Rattle.rules.specs.Settings.{Settings, Checked, passed, refused, checked}
 use Rattle.rules.specs.Rows.{blank_row}
 use Rattle.rules.specs.Tickets.{decimal}
-use Rattle.rules.specs.Terminal.{World, Entries, Call, opening, sample, key, weigh, store, void, print, release, Answer, done, gives, prints, refuses, acts}
+use Rattle.rules.specs.Terminal.{World, Entries, opening, sample, key, weigh, store, void, print, release, Answer, done, gives, prints, refuses, acts}
 use Rattle.rules.specs.Promise.{dark}
 use Rattle.rules.specs.Trace.{trace_limit, lines, Command, to_begin, to_sample, to_press, to_weigh, to_reopen, to_release, to_print, Reading, asks, refused as unreadable, reading_of}
 

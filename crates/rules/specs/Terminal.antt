@@ -1,5 +1,5 @@
 -- The terminal over its memory: its state, its calls, and what each call answers and does
-use Rattle.std.specs.Prelude.{◌≡◌, ℕ, ◌+◌, ◌-◌, ◌*◌, ◌%◌, ◌^◌, Bool, true, false, cond, not, ◌&&◌, ◌||◌, ltb, List, [], ◌∷◌, ◌++◌, map, length, take, drop, set, ℤ, pos, negsuc, ◌-ℤ◌, ◌==◌, int_le, int_lt, nat_le, nat_lt, slice_set, unsigned_abs}
+use Rattle.std.specs.Prelude.{◌≡◌, ℕ, ◌+◌, ◌-◌, ◌*◌, ◌%◌, ◌^◌, Bool, true, false, cond, not, ◌&&◌, ◌||◌, ltb, List, [], ◌∷◌, ◌++◌, map, length, take, drop, ℤ, pos, negsuc, ◌-ℤ◌, ◌==◌, int_le, int_lt, nat_le, nat_lt, slice_set, unsigned_abs}
 use Rattle.std.proofs.Math.Option.{Option, none, some}
 use Rattle.rules.specs.Lists.{when_some, number_of}
 use Rattle.rules.specs.Loads.{mean, rounded, gross_of, stable}
