@@ -1,5 +1,5 @@
 -- The next row takes a record, and what a store answers and leaves
-use Rattle.std.proofs.Common.{◌≡◌, ℕ, ◌*◌, Bool, true, false, cond, ltb, List, length, set, sym, refl, ap, ◌∙◌}
+use Rattle.std.proofs.Common.{◌≡◌, ℕ, Bool, true, false, cond, ltb, List, set, sym, refl, ap, ◌∙◌}
 use mathlib.Core.Option.{Option, none, some}
 use Rattle.rules.specs.Lists.{when_some}
 use Rattle.rules.specs.Records.{Record, numbered}

@@ -1,6 +1,5 @@
 use Rattle.std.proofs.Common.{◌≡◌, ℕ, ◌+◌, ◌<◌, ◌≤◌, ◌⊎◌, List, length, refl, inl, inr, arith}
 use mathlib.Core.Option.{none, some}
-use Rattle.rules.specs.Trace.{lines}
 use Rattle.trace.specs.Meaning.{meaning}
 use Rattle.trace.proofs.LinesRead.{handed_out, none_left}
 use Rattle.trace.proofs.reader.Reader.next_item.Goals as goal
