@@ -1,5 +1,5 @@
-use Rattle.std.proofs.Common.{◌*◌, [], sym, refl, ap, ◌∙◌, arith}
-use Rattle.std.proofs.lemmas.List.Edits.{paste_none, fill_from_more}
+use Rattle.std.proofs.Common.{sym, refl, ap, ◌∙◌, arith}
+use Rattle.std.proofs.lemmas.List.Edits.{fill_from_more}
 use Rattle.rules.specs.Media.{rows_in, accepted, one_more}
 use Rattle.rules.proofs.MediaLaws.{erase_done, erases_outside, erases_inside}
 use Rattle.media.proofs.flash.FlashMedium.erase.Goals as goal
@@ -8,12 +8,9 @@ pub returns-then-page-self : goal.returns-then-page-self
 returns-then-page-self c =
     record { says = erases_outside c.args.self.now.cells.now c.args.self.now.writes c.args.page c.args.self.now.whole c.if-page-self.true; lender = refl }
 
-pub loop-i-init : goal.loop-i-init
-loop-i-init c = (paste_none c.args.self.now.cells.now (c.args.page * 512) [], refl, refl)
-
 pub loop-i-preserved : goal.loop-i-preserved
 loop-i-preserved c =
-    (simp c.loop-i.invariant.0 (fill_from_more c.args.self.now.cells.now (c.args.page * 512) c.loop-i.i 255 (omega arith)), c.loop-i.invariant.1, c.loop-i.invariant.2)
+    (simp c.loop-i.invariant.0 (fill_from_more c.args.self.now.cells.now _ c.loop-i.i 255 (omega arith)), c.loop-i.invariant.1, c.loop-i.invariant.2)
 
 pub returns : goal.returns
 returns c =

@@ -1,5 +1,5 @@
 use Rattle.std.proofs.Common.{◌≡◌, replicate}
-use lib.Seq.{paste}
+use Rattle.std.proofs.Math.Seq.{paste}
 use Rattle.media.proofs.flash.FlashMedium.erase.Given as goal
 
 -- so many bytes are ones; the count and the lender stay

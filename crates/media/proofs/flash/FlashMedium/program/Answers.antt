@@ -1,5 +1,4 @@
-use Rattle.std.proofs.Common.{◌≡◌, ◌*◌, true, length, sym, refl, ap, ◌∙◌, arith, rules}
-use Rattle.std.proofs.lemmas.List.Edits.{paste_none}
+use Rattle.std.proofs.Common.{◌≡◌, true, length, sym, refl, ap, ◌∙◌, arith, rules}
 use Rattle.rules.specs.Rows.{is_blank, blank_row}
 use Rattle.rules.specs.Memory.{row_at}
 use Rattle.rules.specs.Media.{rows_in, accepted, one_more}
@@ -9,9 +8,6 @@ use Rattle.media.proofs.flash.FlashMedium.program.Goals as goal
 
 pub overflow_mul-start : goal.overflow_mul-start
 overflow_mul-start c = let h = within c.args.self.now.cells.now _ _ c.args.row c.in_ok-read.ensures in omega (arith, h.0)
-
-pub loop-i-init : goal.loop-i-init
-loop-i-init c = (paste_none c.args.self.now.cells.now (c.args.row * 32) c.args.bytes.now, refl, refl)
 
 pub overflow_add-self : goal.overflow_add-self
 overflow_add-self c = let h = within c.args.self.now.cells.now _ _ c.args.row c.in_ok-read.ensures in omega (arith, h.0)
@@ -33,7 +29,7 @@ loop-i-preserved c =
     let bytes = c.args.self.now.cells.now in
     let h = within bytes _ _ c.args.row c.in_ok-read.ensures in
     let was : c.read.new.out ≡ blank_row = is_blank_row c.read.new.out (sym c.is_blank.ensures ∙ c.if-not-is_blank.false) in
-    let turn = clear_more bytes c.read.new.out c.args.bytes.now c.args.row c.loop-i.i _ h.0 (h.1 ∙ row_is bytes c.args.row _ h.0) was c.loop-i-test.true c.told-bytes
+    let turn = clear_more bytes c.read.new.out c.args.bytes.now c.args.row c.loop-i.i _ h.0 (h.1 ∙ row_is bytes c.args.row _ h.0) was (omega arith) c.told-bytes
     (c.fits-bytes c.loop-i.i) refl in
     (simp c.loop-i.invariant.0 turn, c.loop-i.invariant.1, c.loop-i.invariant.2)
 

@@ -1,5 +1,5 @@
 use Rattle.std.proofs.Common.{◌≡◌}
-use lib.Seq.{paste}
+use Rattle.std.proofs.Math.Seq.{paste}
 use Rattle.media.proofs.flash.FlashMedium.program.Given as goal
 
 -- so many bytes are written; the count and the lender stay

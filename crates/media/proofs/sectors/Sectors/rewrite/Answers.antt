@@ -1,11 +1,8 @@
-use Rattle.std.proofs.Common.{◌≡◌, ◌*◌, refl, ap, ◌∙◌, arith}
-use lib.Seq.{paste}
-use Rattle.std.proofs.lemmas.List.Edits.{paste_none, paste_more}
+use Rattle.std.proofs.Common.{◌≡◌, ◌*◌, ap, ◌∙◌, arith}
+use Rattle.std.proofs.Math.Seq.{paste}
+use Rattle.std.proofs.lemmas.List.Edits.{paste_more}
 use Rattle.rules.specs.Media.{one_more}
 use Rattle.media.proofs.sectors.Sectors.rewrite.Goals as goal
-
-pub loop-i-init : goal.loop-i-init
-loop-i-init c = (paste_none c.args.self.now.cells.now (c.args.page * 512) c.args.sector.now, refl, refl)
 
 pub loop-i-preserved : goal.loop-i-preserved
 loop-i-preserved c = (
