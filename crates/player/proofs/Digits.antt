@@ -1,5 +1,5 @@
 -- The line of a refusal, digit by digit
-use Rattle.std.proofs.Common.{◌≡◌, ℕ, ◌+◌, ◌/◌, ◌%◌, [], ◌∷◌, refl}
+use Rattle.std.proofs.Common.{◌≡◌, ℕ, ◌+◌, ◌/◌, ◌%◌, [], ◌∷◌}
 use Rattle.rules.specs.Lists.{digits_of}
 use Rattle.rules.specs.Tickets.{decimal}
 use Rattle.rules.specs.Replay.{refusal_line}

@@ -1,4 +1,4 @@
-use Rattle.std.proofs.Common.{◌≡◌, sym, ap, ◌∙◌}
+use Rattle.std.proofs.Common.{sym, ap, ◌∙◌}
 use Rattle.rules.specs.Terminal.{print_refusals, line_of, prints}
 use Rattle.rules.specs.Replay.{then_stored, then_printed}
 use Rattle.rules.proofs.Refusals.{unless_keeps}

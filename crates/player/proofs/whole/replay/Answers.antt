@@ -1,4 +1,4 @@
-use Rattle.std.proofs.Common.{◌≡◌, ◌++◌, ap, ◌∙◌}
+use Rattle.std.proofs.Common.{◌++◌, ap, ◌∙◌}
 use Rattle.rules.specs.Replay.{unopened, writes_from, trace_writes}
 use Rattle.trace.specs.Meaning.{standing}
 use Rattle.player.proofs.whole.replay.Goals as goal
