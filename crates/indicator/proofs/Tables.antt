@@ -1,5 +1,5 @@
 -- What the parts of a table of refusals say of the whole
-use Rattle.std.proofs.Common.{◌≡◌, ℕ, Bool, true, false, cond, List, [], ◌∷◌, ◌++◌, refl, ap, arith}
+use Rattle.std.proofs.Common.{◌≡◌, ℕ, true, false, cond, List, [], ◌∷◌, ◌++◌, refl, ap, arith}
 use Rattle.rules.specs.Terminal.{Answer, done, refuses, Refusal, unless}
 use Rattle.rules.proofs.Refusals.{NoneHolds}
 use Rattle.indicator.specs.Answers.{first_of}

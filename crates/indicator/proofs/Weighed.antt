@@ -1,6 +1,6 @@
 -- A weighing that no refusal meets may be stored
-use Rattle.std.proofs.Common.{◌≡◌, ℕ, ◌≤◌, Bool, true, false, cond, List, [], ◌∷◌, sym, refl, ap, ◌∙◌, arith}
-use mathlib.Core.Option.{Option, none, some}
+use Rattle.std.proofs.Common.{◌≡◌, ℕ, ◌≤◌, Bool, true, false, cond, List, [], ◌∷◌, refl, ap, ◌∙◌, arith}
+use mathlib.Core.Option.{none, some}
 use Rattle.std.proofs.lemmas.Bool.{cond-true}
 use Rattle.rules.specs.Terminal.{done, pending, ◌when◌, is_pending, is_waiting}
 use Rattle.rules.specs.Records.{Record, lawful, numbered, unnumbered}

@@ -1,5 +1,7 @@
 //! The indicator of a terminal: settings, zero, tare, the window of samples and the state, and the keys that change them.
 
+#![tactic(auto)]
+
 mod body;
 mod fault;
 mod keys;
