@@ -1,5 +1,7 @@
 //! Loads: tenths of an interval as the cell sends them, whole intervals, the window of samples, settings, kilograms and prices.
 
+#![tactic(auto)]
+
 mod checking;
 mod class;
 mod interval;

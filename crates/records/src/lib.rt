@@ -1,5 +1,7 @@
 //! The record of a weighing: its mark, its row of 32 bytes and its ticket line.
 
+#![tactic(auto)]
+
 mod bits;
 mod fields;
 mod line;

@@ -1,6 +1,5 @@
 use Rattle.std.proofs.Common.{◌≡◌, ◌<◌, ◌≤◌, length, get_or, pos, sym, ◌∙◌, arith, w32, to_z, of_z, rules}
 use Rattle.std.proofs.lemmas.Int.{ints, to_z-of_z}
-use Rattle.rules.specs.Loads.{sum}
 use Rattle.loads.proofs.Extents.{sum_step, sum_end, lowest_step, lowest_end, highest_step, highest_end, lowest_start, highest_start}
 use Rattle.loads.proofs.readings.Extent.of.Goals as goal
 

@@ -1,4 +1,4 @@
-use Rattle.std.proofs.Common.{◌-◌, cond, sym, ap, ◌∙◌, arith}
+use Rattle.std.proofs.Common.{cond, sym, ap, ◌∙◌, arith}
 use mathlib.Core.Option.{none, some}
 use Rattle.rules.specs.Records.{lawful_mark, typed_mark}
 use Rattle.records.proofs.Marking.{typed_more, typed_done, long_is_no_mark}
