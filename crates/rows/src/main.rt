@@ -1,6 +1,8 @@
 //! Reads rows of the memory from standard input, one to a line as 64 hex digits, and writes for each the ticket line of its record, or
 //! what is wrong with it. It holds one line and one block of input at a time.
 
+#![tactic(auto)]
+
 ghost use Rattle.std.specs.Prelude.{◌≡◌, []};
 ghost use Rattle.rows.specs.Lines.{line_so_far, with_byte};
 
@@ -25,6 +27,7 @@ impl Line {
     }
 
     /// One byte more.
+    #[tactic(auto, using(crate::proofs::Pairs::pushed, crate::proofs::Pairs::full))]
     fn push(&mut self, byte: u8)
         ensures { line_so_far self.new ≡ with_byte (line_so_far self.old) byte }
     {
