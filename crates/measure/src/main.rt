@@ -1,6 +1,8 @@
 //! Does one piece of the library's work many times over 64 rows or records, for an instruction counter to watch.
 //! Arguments: what to do (intact, blank, torn, pack or line) and how many rounds. It writes what it counted.
 
+#![tactic(auto)]
+
 use anyhow::anyhow;
 use loads::Interval;
 use records::{Mark, Record, Tare, Verdict, Weight, judge};
