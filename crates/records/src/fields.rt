@@ -2,7 +2,6 @@
 
 ghost use Rattle.std.specs.Prelude.{◌≡◌, ◌*◌, ◌/◌, ◌^◌, ◌<◌, true, if◌then◌else◌};
 ghost use Rattle.std.proofs.Math.Option.{none, some};
-ghost use Rattle.std.specs.Int.Count.{ones};
 ghost use Rattle.rules.specs.Lists.{number_of, told};
 ghost use Rattle.rules.specs.Records.{lawful};
 ghost use Rattle.rules.specs.Rows.{fields as fields_of, side_by_side};
