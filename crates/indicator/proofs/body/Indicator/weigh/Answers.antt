@@ -19,6 +19,17 @@ returns-in_err-gross c = λ rows writes.
     ∙ past (ready_refusals i) (load_refusals i) w _ (sym c.in_ok-check_ready.ensures)
     ∙ stopped (load_refusals i) [] w _ _ _ (sym c.in_err-gross.ensures.says) ∙ search rules
 
+pub returns : goal.returns
+returns c = λ rows writes.
+    let i = meaning c.args.self.now in
+    let w = powered rows writes i in
+    past (entry_refusals c.args.minute c.args.typed.now c.args.unit_price) (ready_refusals i ++ load_refusals i) w _ (sym c.in_ok-mark.ensures.says)
+    ∙ past (ready_refusals i) (load_refusals i) w _ (sym c.in_ok-check_ready.ensures)
+    ∙ past (load_refusals i) [] w _ (sym c.in_ok-gross.ensures.says)
+    ∙ ap (λ s. (done, powered rows writes (with_state i s))) (sym (c.after-self.ensures ∙ becomes_pending c.args.self.now.state c.in-Ok.weighing (sym c.in_ok-check_ready.ensures)
+    ∙ ap pending (is_made _ _ _ c.in-Ok.ensures
+    ∙ same_record _ _ _ _ _ _ _ _ _ _ _ c.interval.ensures (grind (arith, to_z-of_z)) c.in_ok-mark.ensures.mark)))
+
 pub unreachable-requires : goal.unreachable-requires
 unreachable-requires c =
     let self = c.args.self.now in
@@ -31,14 +42,3 @@ unreachable-requires c =
     (none_hold (load_refusals i) [] (sym c.in_ok-gross.ensures.says) tt)) in
     let ok = weighed_lawful i e passed (tare_fits self.tare _ self.tared self.within) (omega arith) tests 1 (omega arith) (omega arith) in
     not_unlawful _ _ c.in-Err.ensures (same_record _ _ _ _ _ _ _ _ _ _ _ c.interval.ensures (grind (arith, to_z-of_z)) c.in_ok-mark.ensures.mark) ok
-
-pub returns : goal.returns
-returns c = λ rows writes.
-    let i = meaning c.args.self.now in
-    let w = powered rows writes i in
-    past (entry_refusals c.args.minute c.args.typed.now c.args.unit_price) (ready_refusals i ++ load_refusals i) w _ (sym c.in_ok-mark.ensures.says)
-    ∙ past (ready_refusals i) (load_refusals i) w _ (sym c.in_ok-check_ready.ensures)
-    ∙ past (load_refusals i) [] w _ (sym c.in_ok-gross.ensures.says)
-    ∙ ap (λ s. (done, powered rows writes (with_state i s))) (sym (c.after-self.ensures ∙ becomes_pending c.args.self.now.state c.in-Ok.weighing (sym c.in_ok-check_ready.ensures)
-    ∙ ap pending (is_made _ _ _ c.in-Ok.ensures
-    ∙ same_record _ _ _ _ _ _ _ _ _ _ _ c.interval.ensures (grind (arith, to_z-of_z)) c.in_ok-mark.ensures.mark)))
