@@ -1,4 +1,5 @@
 //! Media of rows: one interface, and two kinds over lent bytes.
+
 #![tactic(auto)]
 
 mod bytes;

@@ -1,4 +1,5 @@
 //! Makes a flash and a sector medium over bytes with the same content, makes the same calls of both, and compares the bytes at the end.
+
 #![tactic(auto)]
 
 use media::{Flash, Medium, MediumFault, Sectors, check_bytes};

@@ -1,5 +1,5 @@
 -- The terminal over its memory: its state, its calls, and what each call answers and does
-use Rattle.std.specs.Prelude.{◌≡◌, ℕ, ◌+◌, ◌-◌, ◌*◌, ◌%◌, ◌^◌, Bool, true, false, cond, not, ◌&&◌, ◌||◌, ltb, List, [], ◌∷◌, ◌++◌, map, length, take, drop, ℤ, pos, negsuc, ◌-ℤ◌, ◌==◌, int_le, int_lt, nat_le, nat_lt, slice_set, unsigned_abs}
+use Rattle.std.specs.Prelude.{◌≡◌, ℕ, ◌+◌, ◌-◌, ◌*◌, ◌%◌, ◌^◌, Bool, true, false, cond, not, ◌&&◌, ◌||◌, List, [], ◌∷◌, ◌++◌, map, length, take, drop, ℤ, pos, negsuc, ◌-ℤ◌, ◌==◌, int_le, int_lt, nat_le, nat_lt, slice_set, unsigned_abs}
 use Rattle.std.proofs.Math.Option.{Option, none, some}
 use Rattle.rules.specs.Lists.{when_some, number_of}
 use Rattle.rules.specs.Loads.{mean, rounded, gross_of, stable}
@@ -170,7 +170,7 @@ sampled i x = cond (is_waiting i.state && is_empty i x) (with_window (with_state
 abbrev pub key_refusals : Indicator → Key → List Refusal
 key_refusals i set_zero =
     8 when is_pending i.state ∷ 9 when is_tared i.tare ∷ 10 when not (is_settled i)
-    ∷ 11 when ltb i.settings.max (5 * unsigned_abs (mean i.window)) ∷ []
+    ∷ 11 when nat_lt i.settings.max (5 * unsigned_abs (mean i.window)) ∷ []
 key_refusals i take_tare =
     8 when is_pending i.state ∷ 9 when is_tared i.tare ∷ 10 when not (is_settled i)
     ∷ 12 when (int_lt (gross i) (pos 1) || int_lt (pos i.settings.max) (gross i)) ∷ []
@@ -186,7 +186,7 @@ keyed i (preset_tare v) = with_tare i (preset (unsigned_abs v))
 
 abbrev pub weigh_refusals : Indicator → Entries → List Refusal
 weigh_refusals i e =
-    13 when ltb 1439 e.minute ∷ 14 when not (lawful_mark (typed_mark e.mark)) ∷ 15 when ltb 1000000 e.unit_price
+    13 when nat_lt 1439 e.minute ∷ 14 when not (lawful_mark (typed_mark e.mark)) ∷ 15 when nat_lt 1000000 e.unit_price
     ∷ 8 when is_pending i.state ∷ 16 when is_waiting i.state ∷ 10 when not (is_settled i)
     ∷ 17 when int_lt (gross i) (pos (min_of i.settings)) ∷ 18 when int_lt (pos (i.settings.max + 9)) (gross i) ∷ 19 when int_lt (net i) (pos 1) ∷ []
 
@@ -209,7 +209,7 @@ is_full rows = when_some (next_row rows) true (λ i. false)
 abbrev pub store_refusals : Rows → Record → List Refusal
 store_refusals rows r =
     21 at_any disorder rows ∷ 22 when when_some (newest rows) false (λ n. earlier r n.1)
-    ∷ 23 when ltb 4294967295 (next_number rows) ∷ 24 when is_full rows ∷ []
+    ∷ 23 when nat_lt 4294967295 (next_number rows) ∷ 24 when is_full rows ∷ []
 
 -- the memory with the record in its next row
 abbrev pub with_record : Rows → Record → Rows
@@ -232,7 +232,7 @@ abbrev pub line_of : Rows → ℕ → List ℕ
 line_of rows n = when_some (find rows n) [] ticket
 
 abbrev pub print_refusals : Rows → (number room : ℕ) → List Refusal
-print_refusals rows n room = 25 when ltb room 76 ∷ 21 at_any disorder rows ∷ 26 when is_missing rows n ∷ []
+print_refusals rows n room = 25 when nat_lt room 76 ∷ 21 at_any disorder rows ∷ 26 when is_missing rows n ∷ []
 
 -- what a buffer holds after a print: the line, and the bytes behind it as they were; any other answer leaves all as it was
 abbrev pub buffer_after : Answer → (before : List ℕ) → List ℕ
@@ -268,8 +268,8 @@ keeping_time r = when_some r.keep 90 (λ k. k)
 abbrev pub release_refusals : Rows → Releasing → List Refusal
 release_refusals rows r =
     29 when (nat_lt (keeping_time r) 90 || nat_lt 400 (keeping_time r)) ∷ 21 at_any disorder rows
-    ∷ 30 when when_some (newest rows) false (λ n. ltb r.today n.1.day)
-    ∷ 31 when ltb r.today (r.day + keeping_time r) ∷ []
+    ∷ 30 when when_some (newest rows) false (λ n. nat_lt r.today n.1.day)
+    ∷ 31 when nat_lt r.today (r.day + keeping_time r) ∷ []
 
 -- ---- What each call answers, and the world that it leaves
 

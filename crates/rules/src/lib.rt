@@ -2,6 +2,7 @@
 //!
 //! The rules stand in specs/ (specs/Lib.antt says in which order to read them), and other crates cite them in their contracts.
 //! The functions below do nothing: the contract of each is a theorem about the rules, so that the check asks for its proof.
+
 #![tactic(auto)]
 
 mod layer;
