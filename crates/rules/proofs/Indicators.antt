@@ -1,6 +1,6 @@
 -- What the indicator shows, told from the list alone
-use Rattle.std.proofs.Common.{◌≡◌, ℕ, suc, ◌^◌, ◌<◌, ◌≤◌, true, false, not, ◌&&◌, eqb, List, [], ◌∷◌, ◌++◌, length, ℤ, pos, ◌-ℤ◌, nat_abs, sym, refl, ap, ◌∙◌}
-use mathlib.Core.Option.{none, some, none-ne-some}
+use Rattle.std.proofs.Common.{◌≡◌, ℕ, suc, ◌^◌, ◌<◌, ◌≤◌, true, false, not, ◌&&◌, eqb, List, [], ◌∷◌, ◌++◌, length, ℤ, pos, ◌-ℤ◌, nat_abs, sym, refl, ap, ◌∙◌, None, Some}
+use Rattle.rules.proofs.Options.{none_or_some}
 use lib.Signed.{lt_z}
 use Rattle.std.proofs.lemmas.Bool.{and_parts, eqb-true, not-false, true≢false, cond_both}
 use Rattle.rules.specs.Lists.{AllOf}
@@ -31,14 +31,14 @@ Standing h n (pending r) = Cleared (before_samples n h) h × Pending h r
 
 -- it rests on the same after a moment that neither weighs nor stores
 standing_on :
-    (h : History) (m : Moment) (n k : ℕ) → Ends (before_samples n h) (before_samples k (m ∷ h)) → accepted as_weigh m ≡ none → (Stores m.event → ⊥)
+    (h : History) (m : Moment) (n k : ℕ) → Ends (before_samples n h) (before_samples k (m ∷ h)) → accepted as_weigh m ≡ None → (Stores m.event → ⊥)
     → (s : State) → Standing h n s → Standing (m ∷ h) k s
 standing_on h m n k ends no_weigh no_store waiting s = tt
 standing_on h m n k ends no_weigh no_store ready s = cleared_wider ends (cleared_on m no_store s)
 standing_on h m n k ends no_weigh no_store (pending r) s = (
   cleared_wider ends (cleared_on m no_store s.0),
   record {
-    weighing = weighing_on m (λ w. none-ne-some w.0 (sym no_weigh ∙ w.1)) s.1.weighing;
+    weighing = weighing_on m (λ w. none_or_some None refl (sym no_weigh ∙ w.1)) s.1.weighing;
     is = s.1.is;
     cleared = cleared_on m no_store s.1.cleared;
     lawful_record = s.1.lawful_record;
@@ -62,7 +62,7 @@ standing_cleared h n (pending r) e s = s.0
 -- what the indicator holds is what the list tells
 pub record Shows (h : History) (i : Indicator) : Type 0 where
   pub passed : Passed i.settings
-  pub settings : settings_then h ≡ some i.settings
+  pub settings : settings_then h ≡ Some i.settings
   pub zero_at : zero_then h ≡ i.zero_at
   pub tare : tare_then h ≡ i.tare
   pub tare_fits : TareFits i.settings.max i.tare
@@ -85,10 +85,10 @@ shows_still m settings_same zero_same tare_same s v standing = record {
 
 -- a moment that changes nothing of it
 pub record Quiet (m : Moment) : Type 0 where
-  pub no_opening : accepted as_opening m ≡ none
-  pub no_sample : called as_sample m ≡ none
-  pub no_key : accepted as_key m ≡ none
-  pub no_weigh : accepted as_weigh m ≡ none
+  pub no_opening : accepted as_opening m ≡ None
+  pub no_sample : called as_sample m ≡ None
+  pub no_key : accepted as_key m ≡ None
+  pub no_weigh : accepted as_weigh m ≡ None
   pub no_store : Stores m.event → ⊥
 
 -- after such a moment

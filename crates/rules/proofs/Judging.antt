@@ -1,6 +1,5 @@
 -- The judge of a row finds a record in an intact row, and in no other
-use Rattle.std.proofs.Common.{◌≡◌, ℕ, Bool, true, false, cond, List, [], ◌∷◌, ◌++◌, length, get_or, take, sym, refl, ap, ◌∙◌}
-use mathlib.Core.Option.{Option, none, some}
+use Rattle.std.proofs.Common.{◌≡◌, ℕ, Bool, true, false, cond, List, [], ◌∷◌, ◌++◌, length, get_or, take, sym, refl, ap, ◌∙◌, Option, None, Some}
 use Rattle.std.proofs.lemmas.List.{take_at, get_or_push}
 use Rattle.std.proofs.lemmas.Bool.{eq-eqb}
 use Rattle.rules.specs.Lists.{when_some, digits_of}
@@ -23,12 +22,12 @@ packing_checked r =
 
 -- what the judge says, by the two looks before the fields and what the fields hold
 found : (looks_blank looks_checked : Bool) (fields_hold : Option Record) (r : Record)
-    → (looks_blank ≡ true → fields_hold ≡ none) → (fields_hold ≡ some r → looks_checked ≡ true)
+    → (looks_blank ≡ true → fields_hold ≡ None) → (fields_hold ≡ Some r → looks_checked ≡ true)
     → let said : Verdict = cond looks_blank blank (cond looks_checked (when_some fields_hold wrong_fields intact) wrong_check) in
-    (said ≡ intact r → fields_hold ≡ some r) × (fields_hold ≡ some r → said ≡ intact r)
+    (said ≡ intact r → fields_hold ≡ Some r) × (fields_hold ≡ Some r → said ≡ intact r)
 found true b f r one two = ((λ e. cc), λ e. cc (one refl))
-found false true none r one two = ((λ e. cc), λ e. cc)
-found false true (some q) r one two = ((λ e. cc), λ e. cc)
+found false true None r one two = ((λ e. cc), λ e. cc)
+found false true (Some q) r one two = ((λ e. cc), λ e. cc)
 found false false f r one two = ((λ e. cc), λ e. cc (two e))
 
 pub judge_finds_intact : JudgeFindsIntactRows

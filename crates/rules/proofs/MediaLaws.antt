@@ -1,10 +1,8 @@
 -- The rows of bytes, and what a write to the bytes does to them
-use Rattle.std.proofs.Common.{◌≡◌, ℕ, zero, suc, ◌+◌, ◌-◌, ◌*◌, ◌/◌, ◌%◌, ◌<◌, ◌≤◌, Bool, true, false, cond, ltb, ◌⊎◌, List, [], ◌∷◌, ◌++◌, length, get_or, take, drop, set, replicate, sym, refl, ap, ◌∙◌, inl, ⊎_elim, arith, rules}
+use Rattle.std.proofs.Common.{◌≡◌, ℕ, zero, suc, ◌+◌, ◌-◌, ◌*◌, ◌/◌, ◌%◌, ◌<◌, ◌≤◌, Bool, true, false, cond, ltb, ◌⊎◌, List, [], ◌∷◌, ◌++◌, length, get_or, take, drop, set, replicate, sym, refl, ap, ◌∙◌, inl, ⊎_elim, arith}
 use borrow.Rule.Slice.PartMut.{put_mid, post_of}
-use lib.Bits.{bit_and, and_comm, and_mask}
 use lib.Seq.{paste, length-paste}
-use Rattle.std.proofs.lemmas.List.Edits.{paste_more, drop-paste}
-use Rattle.std.proofs.lemmas.List.{same_lists, ext_get_or, places, drop-take, drop_at, take_at, length-take-le, length-set, get_or-set_same, get_or-set_other, length-take, length-drop, length-map, length-replicate, get_or-map, get_or-replicate, get_or-drop, get_or-take, drop-drop, drop-append-le, take-append-le, drop-replicate, take-replicate}
+use Rattle.std.proofs.lemmas.List.{same_lists, ext_get_or, drop-take, drop_at, take_at, length-take-le, length-set, get_or-set_same, get_or-set_other, length-take, length-drop, length-map, length-replicate, get_or-map, drop-drop, drop-append-le, take-append-le, drop-replicate, take-replicate}
 use Rattle.std.proofs.lemmas.Slice.{take-put_mid_below, drop-put_mid, put_mid-paste}
 use Rattle.std.proofs.lemmas.Bool.{cases_eq, cond-true, cond-false, lt-ltb, le-ltb, ltb-true}
 use Rattle.rules.specs.Lists.{from}
@@ -108,7 +106,7 @@ rows_erase bytes p k m me ke inside same =
     let hr : i < length (rows_in bytes) = omega (arith, rows_length bytes) in
     row_is after i [] (omega (arith, ap (λ l. l / 32) same)) ∙ ⊎_elim
     (λ listed.
-    let q : i / 16 ≡ p = ⊎_elim (λ e. e) (λ none. absurd none) listed.0 in
+    let q : i / 16 ≡ p = ⊎_elim (λ e. e) (λ None. absurd None) listed.0 in
     put_ones bytes (p * 512) m k i (omega arith) (omega arith) (omega arith) ∙ sym listed.1)
     (λ other.
     let ne : i / 16 ≡ p → ⊥ = λ q. other.0 (inl q) in
@@ -153,39 +151,7 @@ program_done bytes after new r k inside size lo hi e =
 
 -- ---- Flash: a turn of the loop that clears bits in a blank row
 
-getD_at_drop : (xs : List ℕ) (k d : ℕ) → get_or xs k d ≡ get_or (drop k xs) 0 d
-getD_at_drop xs k d = sym (get_or-drop k xs 0 d ∙ ap (λ j. get_or xs j d) (omega arith))
-
-ones_and : (v : ℕ) → v < 256 → bit_and 255 v ≡ v
-ones_and v h = and_comm 255 v ∙ and_mask v 8 ∙ omega arith
-
-pub clear_more : (bytes was new : List ℕ) (r i v : ℕ) → r < length bytes / 32 → was ≡ row_in bytes r → was ≡ blank_row → i < 32 → length new ≡ 32 → v < 256 → get_or new i 0 ≡ v
-    → set (paste bytes (r * 32) new i) (r * 32 + i) (bit_and (get_or (paste bytes (r * 32) new i) (r * 32 + i) 0) v) ≡ paste bytes (r * 32) new (i + 1)
-unfolding blank_row
-clear_more bytes was new r i v h read ones hi ln hv e =
-    let here : get_or (paste bytes (r * 32) new i) (r * 32 + i) 0 ≡ get_or bytes (r * 32 + i) 0 =
-    getD_at_drop (paste bytes (r * 32) new i) (r * 32 + i) 0
-    ∙ ap (λ z. get_or z 0 0) (drop-paste bytes (r * 32) new i (omega arith) (omega arith))
-    ∙ sym (getD_at_drop bytes (r * 32 + i) 0) in
-    let one : get_or bytes (r * 32 + i) 0 ≡ 255 =
-    sym (get_or-take 32 (drop (r * 32) bytes) i 0 hi ∙ get_or-drop (r * 32) bytes i 0)
-    ∙ ap (λ z. get_or z i 0) (sym read ∙ ones) ∙ get_or-replicate 32 i 255 0 hi in
-    ap (λ z. set (paste bytes (r * 32) new i) (r * 32 + i) z) (ap (λ z. bit_and z v) (here ∙ one) ∙ ones_and v hv ∙ sym e)
-    ∙ paste_more bytes (r * 32) new i 0 (omega arith) (omega arith)
-
 -- ---- Sectors: a row written into a page that is rewritten whole
-
--- a write inside a part that is written back is a write
-paste_inside : (xs new : List ℕ) (a n b k : ℕ) → a + n ≤ length xs → b + k ≤ n → length new ≡ k → paste xs a (paste (take n (drop a xs)) b new k) n ≡ paste xs (a + b) new k
-paste_inside xs new a n b k h i e = same_lists _ _ (search (rules, places)) (λ j d l. grind (arith, places))
-
-pub sector_done : (bytes after page part new : List ℕ) (r k : ℕ) → r < length bytes / 32 → length bytes % 512 ≡ 0 → k ≡ 32 → length new ≡ 32 → page ≡ take 512 (drop (r / 16 * 512) bytes) → part ≡ new
-    → after ≡ paste bytes (r / 16 * 512) (put_mid (r % 16 * 32) k page part) 512 → after ≡ paste bytes (r * 32) new 32
-sector_done bytes after page part new r k h whole ke ln is same e =
-    e ∙ ap (λ z. paste bytes (r / 16 * 512) z 512) (put_mid-paste (r % 16 * 32) k page part new 32 same (sym ke) (sym ln)
-    ∙ ap (λ z. paste z (r % 16 * 32) new 32) is)
-    ∙ paste_inside bytes new (r / 16 * 512) 512 (r % 16 * 32) 32 (omega arith) (omega arith) ln
-    ∙ ap (λ z. paste bytes z new 32) (omega arith)
 
 -- ---- What the calls say, over the bytes
 
@@ -210,15 +176,9 @@ read_told rows row out got e = at (ltb row (length rows)) refl e
 
 -- of bytes: the row lies within them
 pub within : (bytes got was : List ℕ) (row : ℕ) → reads (rows_in bytes) row was ≡ (accepted, got) → (row < length bytes / 32) × (got ≡ row_at (rows_in bytes) row)
-within bytes got was row e = let told = read_told (rows_in bytes) row was got e in (omega (arith, told.0, rows_length bytes), told.1)
+within bytes got was row e = let option_map = read_told (rows_in bytes) row was got e in (omega (arith, option_map.0, rows_length bytes), option_map.1)
 
 module _ (rows : Rows) (writes row : ℕ) (bytes : List ℕ) where
-  pub programs_outside : length rows ≤ row → programs rows writes row bytes ≡ (refused 2 row, rows, writes)
-  programs_outside h = cond-false (ltb row (length rows)) _ _ (le-ltb row (length rows) h)
-
-  pub programs_not_blank : row < length rows → is_blank (row_at rows row) ≡ false → programs rows writes row bytes ≡ (refused 3 row, rows, writes)
-  programs_not_blank h b = cond-true (ltb row (length rows)) _ _ (lt-ltb row (length rows) h) ∙ cond-false (is_blank (row_at rows row)) _ _ b
-
   pub programs_blank : (left : Rows) → row < length rows → is_blank (row_at rows row) ≡ true → left ≡ set rows row bytes → programs rows writes row bytes ≡ (accepted, left, one_more writes)
   programs_blank left h b e =
       cond-true (ltb row (length rows)) _ _ (lt-ltb row (length rows) h) ∙ cond-true (is_blank (row_at rows row)) _ _ b ∙ ap (λ x. (accepted, x, one_more writes)) (sym e)
@@ -226,9 +186,6 @@ module _ (rows : Rows) (writes row : ℕ) (bytes : List ℕ) where
 module _ (bytes : List ℕ) (writes page : ℕ) (whole : length bytes % 512 ≡ 0) where
   pages_count : pages (rows_in bytes) ≡ length bytes / 512
   pages_count = ap (λ n. n / 16) (pages_are bytes whole) ∙ omega arith
-
-  pub erases_outside : length bytes / 512 ≤ page → erases (rows_in bytes) writes page ≡ (refused 2 page, rows_in bytes, writes)
-  erases_outside h = cond-false (ltb page (pages (rows_in bytes))) _ _ (le-ltb page (pages (rows_in bytes)) (omega (arith, pages_count)))
 
   pub erases_inside : (left : Rows) → page < length bytes / 512 → left ≡ erased (rows_in bytes) (page ∷ []) → erases (rows_in bytes) writes page ≡ (accepted, left, one_more writes)
   erases_inside left h e = cond-true (ltb page (pages (rows_in bytes))) _ _ (lt-ltb page (pages (rows_in bytes)) (omega (arith, pages_count))) ∙ ap (λ x. (accepted, x, one_more writes)) (sym e)

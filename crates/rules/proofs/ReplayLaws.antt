@@ -1,6 +1,5 @@
 -- The kind of the medium makes no difference to what a trace writes
-use Rattle.std.proofs.Common.{◌≡◌, ℕ, ◌+◌, List, [], ◌∷◌, ◌++◌, take, refl, ap, ◌∙◌}
-use mathlib.Core.Option.{Option}
+use Rattle.std.proofs.Common.{◌≡◌, ℕ, ◌+◌, List, [], ◌∷◌, ◌++◌, take, refl, ap, ◌∙◌, Option}
 use Rattle.rules.specs.Lists.{when_some}
 use Rattle.rules.specs.Trace.{trace_limit, lines, Command, Reading, asks, refused, command_of, reading_of}
 use Rattle.rules.specs.Replay.{Replay, unopened, running, plays, writes_from, trace_writes}

@@ -1,6 +1,5 @@
 -- Worked cases, gathered as one fact; each is computed from the rules
-use Rattle.std.specs.Prelude.{◌≡◌, ℕ, List, [], ◌∷◌, ◌++◌, map, replicate, ℤ, pos, negsuc, codes}
-use Rattle.std.proofs.Math.Option.{Option, none, some}
+use Rattle.std.specs.Prelude.{◌≡◌, ℕ, List, [], ◌∷◌, ◌++◌, map, replicate, ℤ, pos, negsuc, codes, Option, None, Some}
 use Rattle.rules.specs.Loads.{rounded, sum, mean, gross_of, price_of}
 use Rattle.rules.specs.Records.{Record, typed_mark}
 use Rattle.rules.specs.Rows.{packing, blank_row}
@@ -12,7 +11,7 @@ use Rattle.rules.specs.Trace.{flash, sectors, Command, to_begin, to_sample, to_p
 
 -- eight blank pages
 abbrev pub blank_world : World
-blank_world = record { rows = replicate 128 blank_row; writes = 0; on = none }
+blank_world = record { rows = replicate 128 blank_row; writes = 0; on = None }
 
 -- class 3, an interval of 20 kg, at most 3,000 intervals
 abbrev pub some_settings : Settings
@@ -95,8 +94,8 @@ pub record WorkedCases : Type 0 where
   pub packed : packing a_record ≡ a_row
   -- records of day 9,500 are kept 90 days: a release passes on day 9,590, and finds nothing in a blank memory; on day 9,589 it is refused
   pub keeping_time_ends :
-      ((acts (release (record { day = 9500; today = 9590; keep = none })) (steady_world (pos 0))).0 ≡ gives 0)
-      × ((acts (release (record { day = 9500; today = 9589; keep = none })) (steady_world (pos 0))).0 ≡ refuses 31 0)
+      ((acts (release (record { day = 9500; today = 9590; keep = None })) (steady_world (pos 0))).0 ≡ gives 0)
+      × ((acts (release (record { day = 9500; today = 9589; keep = None })) (steady_world (pos 0))).0 ≡ refuses 31 0)
   -- a weighing is stored under number 1 and printed; the lorry is not weighed again before the platform was empty
   pub weighed_once : answers blank_world a_weighing ≡ replicate 12 done ++ (gives 1 ∷ prints a_line ∷ refuses 16 0 ∷ [])
 
@@ -108,34 +107,34 @@ asked text = command_of (text ++ (10 ∷ []))
 
 pub record WorkedLines : Type 0 where
   -- the lines of the weighing above, and of the other calls
-  pub begins : (asked (codes "B F 3 20 3000") ≡ some (to_begin flash 3 20 3000)) × (asked (codes "B S 003 020 3000") ≡ some (to_begin sectors 3 20 3000))
-  pub samples : (asked (codes "S 12431") ≡ some (to_sample (pos 12431))) × (asked (codes "S 000000000") ≡ some (to_sample (pos 0)))
+  pub begins : (asked (codes "B F 3 20 3000") ≡ Some (to_begin flash 3 20 3000)) × (asked (codes "B S 003 020 3000") ≡ Some (to_begin sectors 3 20 3000))
+  pub samples : (asked (codes "S 12431") ≡ Some (to_sample (pos 12431))) × (asked (codes "S 000000000") ≡ Some (to_sample (pos 0)))
   pub keys :
-      (asked (codes "Z") ≡ some (to_press set_zero)) × (asked (codes "T") ≡ some (to_press take_tare)) × (asked (codes "N") ≡ some (to_press clear_tare))
-      × (asked (codes "P 426") ≡ some (to_press (preset_tare (pos 426))))
-  pub weighs : asked (codes "W 9500 615 KL4420 18555") ≡ some (to_weigh some_entries)
+      (asked (codes "Z") ≡ Some (to_press set_zero)) × (asked (codes "T") ≡ Some (to_press take_tare)) × (asked (codes "N") ≡ Some (to_press clear_tare))
+      × (asked (codes "P 426") ≡ Some (to_press (preset_tare (pos 426))))
+  pub weighs : asked (codes "W 9500 615 KL4420 18555") ≡ Some (to_weigh some_entries)
   pub others :
-      (asked (codes "O") ≡ some to_reopen) × (asked (codes "R 9500 65535") ≡ some (to_release 9500 65535)) × (asked (codes "L 7") ≡ some (to_print 7))
+      (asked (codes "O") ≡ Some to_reopen) × (asked (codes "R 9500 65535") ≡ Some (to_release 9500 65535)) × (asked (codes "L 7") ≡ Some (to_print 7))
   -- a minus goes before a load, once, and is none of its digits
   pub minus :
-      (asked (codes "S -0") ≡ some (to_sample (pos 0))) × (asked (codes "S -000000001") ≡ some (to_sample (negsuc 0))) × (asked (codes "S -") ≡ none)
-      × (asked (codes "S --1") ≡ none) × (asked (codes "S +1") ≡ none) × (asked (codes "P -1") ≡ none)
+      (asked (codes "S -0") ≡ Some (to_sample (pos 0))) × (asked (codes "S -000000001") ≡ Some (to_sample (negsuc 0))) × (asked (codes "S -") ≡ None)
+      × (asked (codes "S --1") ≡ None) × (asked (codes "S +1") ≡ None) × (asked (codes "P -1") ≡ None)
   -- ten digits, nine bytes, a day too late
   pub too_long :
-      (asked (codes "P 0000000000") ≡ none) × (asked (codes "W 1 2 ABCDEFGHI 3") ≡ none) × (asked (codes "W 65536 2 A 3") ≡ none)
-      × (asked (codes "R 65536 1") ≡ none) × (asked (codes "R 1 65536") ≡ none)
+      (asked (codes "P 0000000000") ≡ None) × (asked (codes "W 1 2 ABCDEFGHI 3") ≡ None) × (asked (codes "W 65536 2 A 3") ≡ None)
+      × (asked (codes "R 65536 1") ≡ None) × (asked (codes "R 1 65536") ≡ None)
   -- a mark may be any bytes but a space
   pub any_mark :
-      (asked (codes "W 1 2 a-b 3") ≡ some (to_weigh (record { day = 1; minute = 2; mark = codes "a-b"; unit_price = 3 })))
-      × (asked (codes "W 1 2 A B 3") ≡ none)
+      (asked (codes "W 1 2 a-b 3") ≡ Some (to_weigh (record { day = 1; minute = 2; mark = codes "a-b"; unit_price = 3 })))
+      × (asked (codes "W 1 2 A B 3") ≡ None)
   -- one space before each field, and nothing else
   pub spaces :
-      (asked [] ≡ none) × (asked (codes "Z ") ≡ none) × (asked (codes " Z") ≡ none) × (asked (codes "L  1") ≡ none) × (asked (codes "L 1 ") ≡ none)
-      × (asked (codes "Z" ++ (13 ∷ [])) ≡ none)
+      (asked [] ≡ None) × (asked (codes "Z ") ≡ None) × (asked (codes " Z") ≡ None) × (asked (codes "L  1") ≡ None) × (asked (codes "L 1 ") ≡ None)
+      × (asked (codes "Z" ++ (13 ∷ [])) ≡ None)
   -- capital letters, and kinds of one
   pub letters :
-      (asked (codes "z") ≡ none) × (asked (codes "X") ≡ none) × (asked (codes "ZZ") ≡ none) × (asked (codes "B f 3 20 3000") ≡ none)
-      × (asked (codes "B FS 3 20 3000") ≡ none)
+      (asked (codes "z") ≡ None) × (asked (codes "X") ≡ None) × (asked (codes "ZZ") ≡ None) × (asked (codes "B f 3 20 3000") ≡ None)
+      × (asked (codes "B FS 3 20 3000") ≡ None)
   -- each line ends in a line feed; one that does not is still a line
-  pub unended : (command_of (codes "Z") ≡ none) × (lines (codes "Z" ++ (10 ∷ (10 ∷ codes "T"))) ≡ (90 ∷ 10 ∷ []) ∷ (10 ∷ []) ∷ (84 ∷ []) ∷ [])
+  pub unended : (command_of (codes "Z") ≡ None) × (lines (codes "Z" ++ (10 ∷ (10 ∷ codes "T"))) ≡ (90 ∷ 10 ∷ []) ∷ (10 ∷ []) ∷ (84 ∷ []) ∷ [])
   pub no_lines : (lines [] ≡ []) × (lines (90 ∷ 10 ∷ []) ≡ (90 ∷ 10 ∷ []) ∷ [])

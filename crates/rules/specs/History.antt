@@ -1,6 +1,5 @@
 -- Lists of calls and cuts, and what can be told from such a list alone: settings, samples, zero and tare as of its end
-use Rattle.std.specs.Prelude.{◌≡◌, ℕ, zero, suc, Bool, true, false, cond, List, [], ◌∷◌, ◌++◌, map, take, ℤ, pos, ◌-ℤ◌, int_lt, unsigned_abs}
-use Rattle.std.proofs.Math.Option.{Option, none, some}
+use Rattle.std.specs.Prelude.{◌≡◌, ℕ, zero, suc, Bool, true, false, cond, List, [], ◌∷◌, ◌++◌, map, take, ℤ, pos, ◌-ℤ◌, int_lt, unsigned_abs, Option, None, Some}
 use Rattle.rules.specs.Lists.{when_some}
 use Rattle.rules.specs.Loads.{mean, rounded, gross_of}
 use Rattle.rules.specs.Settings.{Settings, min_of}
@@ -25,59 +24,59 @@ History = List Moment
 -- ---- Kinds of calls: the argument of a call of the kind, nothing for any other
 
 abbrev pub as_opening : Call → Option Settings
-as_opening (opening s) = some s
-as_opening (sample x) = none
-as_opening (key k) = none
-as_opening (weigh e) = none
-as_opening store = none
-as_opening void = none
-as_opening (print n room) = none
-as_opening (verify line) = none
-as_opening (release r) = none
+as_opening (opening s) = Some s
+as_opening (sample x) = None
+as_opening (key k) = None
+as_opening (weigh e) = None
+as_opening store = None
+as_opening void = None
+as_opening (print n room) = None
+as_opening (verify line) = None
+as_opening (release r) = None
 
 abbrev pub as_sample : Call → Option ℤ
-as_sample (opening s) = none
-as_sample (sample x) = some x
-as_sample (key k) = none
-as_sample (weigh e) = none
-as_sample store = none
-as_sample void = none
-as_sample (print n room) = none
-as_sample (verify line) = none
-as_sample (release r) = none
+as_sample (opening s) = None
+as_sample (sample x) = Some x
+as_sample (key k) = None
+as_sample (weigh e) = None
+as_sample store = None
+as_sample void = None
+as_sample (print n room) = None
+as_sample (verify line) = None
+as_sample (release r) = None
 
 abbrev pub as_key : Call → Option Key
-as_key (opening s) = none
-as_key (sample x) = none
-as_key (key k) = some k
-as_key (weigh e) = none
-as_key store = none
-as_key void = none
-as_key (print n room) = none
-as_key (verify line) = none
-as_key (release r) = none
+as_key (opening s) = None
+as_key (sample x) = None
+as_key (key k) = Some k
+as_key (weigh e) = None
+as_key store = None
+as_key void = None
+as_key (print n room) = None
+as_key (verify line) = None
+as_key (release r) = None
 
 abbrev pub as_weigh : Call → Option Entries
-as_weigh (opening s) = none
-as_weigh (sample x) = none
-as_weigh (key k) = none
-as_weigh (weigh e) = some e
-as_weigh store = none
-as_weigh void = none
-as_weigh (print n room) = none
-as_weigh (verify line) = none
-as_weigh (release r) = none
+as_weigh (opening s) = None
+as_weigh (sample x) = None
+as_weigh (key k) = None
+as_weigh (weigh e) = Some e
+as_weigh store = None
+as_weigh void = None
+as_weigh (print n room) = None
+as_weigh (verify line) = None
+as_weigh (release r) = None
 
 abbrev pub as_release : Call → Option Releasing
-as_release (opening s) = none
-as_release (sample x) = none
-as_release (key k) = none
-as_release (weigh e) = none
-as_release store = none
-as_release void = none
-as_release (print n room) = none
-as_release (verify line) = none
-as_release (release r) = some r
+as_release (opening s) = None
+as_release (sample x) = None
+as_release (key k) = None
+as_release (weigh e) = None
+as_release store = None
+as_release void = None
+as_release (print n room) = None
+as_release (verify line) = None
+as_release (release r) = Some r
 
 -- whether an answer is no refusal
 abbrev pub is_accepted : Answer → Bool
@@ -92,36 +91,36 @@ called {A} kind m = of m.event
   where
     of : Event → Option A
     of (answered c a) = kind c
-    of cut_in_store = none
-    of (cut_in_release r) = none
-    of switched_off = none
+    of cut_in_store = None
+    of (cut_in_release r) = None
+    of switched_off = None
 
 -- of a moment, the argument of an accepted call of that kind
 abbrev pub accepted : {A : Type 0} → (Call → Option A) → Moment → Option A
 accepted {A} kind m = of m.event
   where
     of : Event → Option A
-    of (answered c a) = cond (is_accepted a) (kind c) none
-    of cut_in_store = none
-    of (cut_in_release r) = none
-    of switched_off = none
+    of (answered c a) = cond (is_accepted a) (kind c) None
+    of cut_in_store = None
+    of (cut_in_release r) = None
+    of switched_off = None
 
 -- the release that a call made or was cut in
 abbrev pub released : Moment → Option Releasing
 released m = of m.event
   where
     of : Event → Option Releasing
-    of (answered c a) = cond (is_accepted a) (as_release c) none
-    of cut_in_store = none
-    of (cut_in_release r) = some r
-    of switched_off = none
+    of (answered c a) = cond (is_accepted a) (as_release c) None
+    of cut_in_store = None
+    of (cut_in_release r) = Some r
+    of switched_off = None
 
 -- ---- Settings, samples, zero and tare as of the end of a list
 
 -- those of the last opening
 abbrev pub settings_then : History → Option Settings
-settings_then [] = none
-settings_then (m ∷ h) = when_some (accepted as_opening m) (settings_then h) some
+settings_then [] = None
+settings_then (m ∷ h) = when_some (accepted as_opening m) (settings_then h) Some
 
 -- the samples that were sent, the latest first, and whether each was accepted
 abbrev pub samples_sent : History → List (ℤ × Bool)
@@ -185,6 +184,6 @@ LiesIn g now before = (z : Split g) × (z.now ≡ now) × (z.before ≡ before)
 pub record Emptied {h : History} (x : Split h) : Type 0 where
   pub load : ℤ
   pub settings : Settings
-  pub taken : accepted as_sample x.now ≡ some load
-  pub opened : settings_then x.before ≡ some settings
+  pub taken : accepted as_sample x.now ≡ Some load
+  pub opened : settings_then x.before ≡ Some settings
   pub under : int_lt (rounded (load -ℤ zero_then x.before)) (pos (min_of settings)) ≡ true

@@ -1,6 +1,5 @@
 -- What the definitions come to, each in the words of the subject
-use Rattle.std.specs.Prelude.{◌≡◌, ℕ, ◌+◌, ◌-◌, ◌*◌, ◌%◌, ◌<◌, ◌≤◌, true, false, ◌⊎◌, List, [], ◌∷◌, ◌++◌, map, length, take, ℤ, pos, ◌-ℤ◌, ◌*ℤ◌, ◌≤ℤ◌, ◌≢◌, slice_index, unsigned_abs}
-use Rattle.std.proofs.Math.Option.{Option, none, some}
+use Rattle.std.specs.Prelude.{◌≡◌, ℕ, ◌+◌, ◌-◌, ◌*◌, ◌%◌, ◌<◌, ◌≤◌, true, false, ◌⊎◌, List, [], ◌∷◌, ◌++◌, map, length, take, ℤ, pos, ◌-ℤ◌, ◌*ℤ◌, ◌≤ℤ◌, ◌≢◌, slice_index, unsigned_abs, Option, None, Some}
 use Rattle.rules.specs.Lists.{joined, Among, AllOf}
 use Rattle.rules.specs.Loads.{nearest, stable, kg_of, price_of}
 use Rattle.rules.specs.Settings.{Settings, Passed, passed, checked}
@@ -55,11 +54,11 @@ CheckPassesGoodSettings =
 
 -- a packed row reads back
 abbrev pub PackedRowsRead : Type 0
-PackedRowsRead = (r : Record) → lawful r ≡ true → read_row (packing r) ≡ some r
+PackedRowsRead = (r : Record) → lawful r ≡ true → read_row (packing r) ≡ Some r
 
 -- a row that reads as a record is its packing, and the record is lawful
 abbrev pub ReadRowsArePacked : Type 0
-ReadRowsArePacked = (row : List ℕ) (r : Record) → read_row row ≡ some r → (lawful r ≡ true) × (row ≡ packing r)
+ReadRowsArePacked = (row : List ℕ) (r : Record) → read_row row ≡ Some r → (lawful r ≡ true) × (row ≡ packing r)
 
 -- one row is the packing of one lawful record
 abbrev pub PackingsDiffer : Type 0
@@ -68,14 +67,14 @@ PackingsDiffer = (r q : Record) → lawful r ≡ true → lawful q ≡ true → 
 -- a row that wears from a packing, each bit as it was or one, is that packing still or is not intact
 abbrev pub WornRowsAreWhole : Type 0
 WornRowsAreWhole =
-    (q r : Record) (row : List ℕ) → lawful q ≡ true → Mixed blank_row (packing q) row → read_row row ≡ some r → (r ≡ q) × (row ≡ packing q)
+    (q r : Record) (row : List ℕ) → lawful q ≡ true → Mixed blank_row (packing q) row → read_row row ≡ Some r → (r ≡ q) × (row ≡ packing q)
 
 abbrev pub BlankRowsAreNotIntact : Type 0
-BlankRowsAreNotIntact = read_row blank_row ≡ none
+BlankRowsAreNotIntact = read_row blank_row ≡ None
 
 -- the judge finds a record in an intact row, and in no other
 abbrev pub JudgeFindsIntactRows : Type 0
-JudgeFindsIntactRows = (row : List ℕ) (r : Record) → (judged row ≡ intact r → read_row row ≡ some r) × (read_row row ≡ some r → judged row ≡ intact r)
+JudgeFindsIntactRows = (row : List ℕ) (r : Record) → (judged row ≡ intact r → read_row row ≡ Some r) × (read_row row ≡ Some r → judged row ≡ intact r)
 
 -- ---- The memory
 
@@ -87,9 +86,9 @@ pub record IsNewest (rows : Rows) (i : ℕ) (r : Record) : Type 0 where
 -- that is the newest record, and there is none only where no record is found
 abbrev pub NewestIsLargest : Type 0
 NewestIsLargest =
-    (rows : Rows) → ((i : ℕ) (r : Record) → newest rows ≡ some (i, r) → IsNewest rows i r)
-    × ((i : ℕ) (r : Record) → IsNewest rows i r → newest rows ≡ some (i, r))
-    × (newest rows ≡ none → (i : ℕ) (r : Record) → Found rows i r → ⊥)
+    (rows : Rows) → ((i : ℕ) (r : Record) → newest rows ≡ Some (i, r) → IsNewest rows i r)
+    × ((i : ℕ) (r : Record) → IsNewest rows i r → newest rows ≡ Some (i, r))
+    × (newest rows ≡ None → (i : ℕ) (r : Record) → Found rows i r → ⊥)
 
 -- in a list i comes before j
 abbrev pub ComesBefore : List ℕ → (i j : ℕ) → Type 0
@@ -104,13 +103,13 @@ RisesAlongRound rows =
 
 -- that is what in order means
 abbrev pub OrderIsRising : Type 0
-OrderIsRising = (rows : Rows) → (disorder rows ≡ none → RisesAlongRound rows) × (RisesAlongRound rows → disorder rows ≡ none)
+OrderIsRising = (rows : Rows) → (disorder rows ≡ None → RisesAlongRound rows) × (RisesAlongRound rows → disorder rows ≡ None)
 
 -- whole pages, and in order
 pub record Orderly (rows : Rows) : Type 0 where
   pub pages : ℕ
   pub whole : length rows ≡ 16 * pages
-  pub in_order : disorder rows ≡ none
+  pub in_order : disorder rows ≡ None
 
 -- then no two rows hold records with one number
 abbrev pub NumbersDiffer : Type 0
@@ -125,24 +124,24 @@ pub record IsFree (rows : Rows) (page row : ℕ) : Type 0 where
 -- the next row: the first free row of the newest record's page, or where that has none, or there is no newest, that of the first page of the round,
 -- provided that no record is found in that page
 pub data IsNext (rows : Rows) (row : ℕ) : Type 0 where
-  behind_newest : (i : ℕ) (r : Record) → newest rows ≡ some (i, r) → IsFree rows (page_of i) row → IsNext rows row
+  behind_newest : (i : ℕ) (r : Record) → newest rows ≡ Some (i, r) → IsFree rows (page_of i) row → IsNext rows row
   in_first_page :
       (page : ℕ) (others : List ℕ) → round rows ≡ page ∷ others
-      → ((i : ℕ) (r : Record) → newest rows ≡ some (i, r) → (k : ℕ) → IsFree rows (page_of i) k → ⊥)
+      → ((i : ℕ) (r : Record) → newest rows ≡ Some (i, r) → (k : ℕ) → IsFree rows (page_of i) k → ⊥)
       → ((i : ℕ) (r : Record) → page_of i ≡ page → Found rows i r → ⊥) → IsFree rows page row → IsNext rows row
 
 -- that is the next row
 abbrev pub NextRowIsNext : Type 0
-NextRowIsNext = (rows : Rows) (row : ℕ) → (next_row rows ≡ some row → IsNext rows row) × (IsNext rows row → next_row rows ≡ some row)
+NextRowIsNext = (rows : Rows) (row : ℕ) → (next_row rows ≡ Some row → IsNext rows row) × (IsNext rows row → next_row rows ≡ Some row)
 
 -- it is a row of the memory, and blank
 abbrev pub NextRowIsBlank : Type 0
-NextRowIsBlank = (rows : Rows) (row : ℕ) → next_row rows ≡ some row → (row < length rows) × (row_at rows row ≡ blank_row)
+NextRowIsBlank = (rows : Rows) (row : ℕ) → next_row rows ≡ Some row → (row < length rows) × (row_at rows row ≡ blank_row)
 
 -- a record that may be stored next: it is lawful under the next number, and its stamp is not earlier than that of the newest record, if there is one
 pub record MayFollow (rows : Rows) (r : Record) : Type 0 where
   pub lawful_record : lawful (numbered (next_number rows) r) ≡ true
-  pub stamp : (i : ℕ) (q : Record) → newest rows ≡ some (i, q) → earlier r q ≡ false
+  pub stamp : (i : ℕ) (q : Record) → newest rows ≡ Some (i, q) → earlier r q ≡ false
 
 -- its store leaves the memory in order
 abbrev pub StoreKeepsOrder : Type 0
@@ -151,13 +150,13 @@ StoreKeepsOrder = (rows : Rows) (r : Record) → Orderly rows → MayFollow rows
 -- and so does a cut inside that store
 abbrev pub CutStoreKeepsOrder : Type 0
 CutStoreKeepsOrder =
-    (rows left : Rows) (r : Record) (row : ℕ) → Orderly rows → MayFollow rows r → next_row rows ≡ some row
+    (rows left : Rows) (r : Record) (row : ℕ) → Orderly rows → MayFollow rows r → next_row rows ≡ Some row
     → ProgramCut rows row (packing (numbered (next_number rows) r)) left → Orderly left
 
 -- a release for this day does not stop before the page: no record in it is dated on or after the day, nor is it the newest record's page
 pub record PassesPage (rows : Rows) (day page : ℕ) : Type 0 where
   pub old : (i : ℕ) (r : Record) → page_of i ≡ page → Found rows i r → r.day < day
-  pub not_newest : (i : ℕ) (r : Record) → newest rows ≡ some (i, r) → page_of i ≢ page
+  pub not_newest : (i : ℕ) (r : Record) → newest rows ≡ Some (i, r) → page_of i ≢ page
 
 -- a page of the round that is not blank, and the release stops neither before it nor before any page that comes earlier
 pub record IsReleased (rows : Rows) (day page : ℕ) : Type 0 where
@@ -227,7 +226,7 @@ PrintsWhatIsFound =
 -- on a blank medium the pending record is stored in row 0 under number 1, and no other row changes
 abbrev pub FirstStoreIsAccepted : Type 0
 FirstStoreIsAccepted =
-    (w : World) (i : Indicator) (r : Record) → BlankMedium w.rows → w.on ≡ some i → i.state ≡ pending r → lawful (numbered 1 r) ≡ true
+    (w : World) (i : Indicator) (r : Record) → BlankMedium w.rows → w.on ≡ Some i → i.state ≡ pending r → lawful (numbered 1 r) ≡ true
     → ((acts store w).0 ≡ gives 1) × Found (acts store w).1.rows 0 (numbered 1 r)
     × ((k : ℕ) → 0 < k → row_at (acts store w).1.rows k ≡ row_at w.rows k)
 
@@ -255,7 +254,7 @@ LinesEndAtLineFeeds = (trace : List ℕ) → AreLines (lines trace) × ((ls : Li
 -- two lines ask for the same, but for the kind of the medium that they begin with; a line that is bad asks for nothing
 pub data SameButKind : Option Command → Option Command → Type 0 where
   same : {c : Option Command} → SameButKind c c
-  other_kind : {k j : Kind} {class kg max : ℕ} → SameButKind (some (to_begin k class kg max)) (some (to_begin j class kg max))
+  other_kind : {k j : Kind} {class kg max : ℕ} → SameButKind (Some (to_begin k class kg max)) (Some (to_begin j class kg max))
 
 -- so do these lines, one by one
 abbrev pub SameLinesButKind : List (List ℕ) → List (List ℕ) → Type 0

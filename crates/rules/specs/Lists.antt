@@ -1,23 +1,17 @@
 -- Lists, options and digits, for the files that follow
-use Rattle.std.specs.Prelude.{◌≡◌, ℕ, zero, suc, ◌+◌, ◌*◌, ◌/◌, ◌%◌, Bool, true, false, ◌&&◌, ◌⊎◌, List, [], ◌∷◌, ◌++◌, Some, None, Option as CodeOption, ◌==◌}
-use Rattle.std.proofs.Math.Option.{Option, none, some}
+use Rattle.std.specs.Prelude.{◌≡◌, ℕ, zero, suc, ◌+◌, ◌*◌, ◌/◌, ◌%◌, Bool, true, false, ◌&&◌, ◌⊎◌, List, [], ◌∷◌, ◌++◌, ◌==◌, Option, None, Some}
 
 -- ---- Something or nothing
 
 -- b where there is nothing, else f of what there is
 abbrev pub when_some : {A B : Type 0} → Option A → B → (A → B) → B
-when_some none b f = b
-when_some (some a) b f = f a
+when_some None b f = b
+when_some (Some a) b f = f a
 
 -- the first that is something
 abbrev pub or_else : {A : Type 0} → Option A → Option A → Option A
-or_else none b = b
-or_else (some a) b = some a
-
--- what an option in the code says, with each value by its meaning
-abbrev pub told : {A B : Type 0} → (A → B) → CodeOption A → Option B
-told meaning None = none
-told meaning (Some a) = some (meaning a)
+or_else None b = b
+or_else (Some a) b = Some a
 
 -- ---- Lists
 

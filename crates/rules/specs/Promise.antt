@@ -1,6 +1,5 @@
 -- The promise: what holds of the memory after any list of calls and power cuts
-use Rattle.std.specs.Prelude.{◌≡◌, ℕ, ◌*◌, ◌^◌, ◌<◌, ◌≤◌, true, [], ◌∷◌, map, take, replicate}
-use Rattle.std.proofs.Math.Option.{none, some}
+use Rattle.std.specs.Prelude.{◌≡◌, ℕ, ◌*◌, ◌^◌, ◌<◌, ◌≤◌, true, [], ◌∷◌, map, take, replicate, None, Some}
 use Rattle.rules.specs.Lists.{AllOf, NoneOf}
 use Rattle.rules.specs.Records.{Record, lawful, numbered}
 use Rattle.rules.specs.Rows.{packing, blank_row}
@@ -26,7 +25,7 @@ Callable w (release r) = On w × (r.day < 2 ^ 16) × (r.today < 2 ^ 16)
 
 -- the world with no power: all but the rows is lost
 abbrev pub dark : Rows → World
-dark rows = record { rows = rows; writes = 0; on = none }
+dark rows = record { rows = rows; writes = 0; on = None }
 
 -- 2 to 64 pages of blank rows
 pub record BlankMedium (rows : Rows) : Type 0 where
@@ -43,7 +42,7 @@ pub data Run : History → World → Type 0 where
       → Run (record { before = w; event = answered c a } ∷ h) after
   store_cut :
       {h : History} {w after : World} {n row : ℕ} {left : Rows}
-      → Run h w → acts store w ≡ (gives n, after) → next_row w.rows ≡ some row → ProgramCut w.rows row (row_at after.rows row) left
+      → Run h w → acts store w ≡ (gives n, after) → next_row w.rows ≡ Some row → ProgramCut w.rows row (row_at after.rows row) left
       → Run (record { before = w; event = cut_in_store } ∷ h) (dark left)
   release_cut :
       {h : History} {w after : World} {n : ℕ} {r : Releasing} {left : Rows}
@@ -60,16 +59,16 @@ pub record Found (rows : Rows) (row : ℕ) (r : Record) : Type 0 where
 
 -- an accepted weigh
 abbrev pub Weighs : Moment → Type 0
-Weighs m = (e : Entries) × (accepted as_weigh m ≡ some e)
+Weighs m = (e : Entries) × (accepted as_weigh m ≡ Some e)
 
 -- the last accepted weigh of a list, with the settings then, after eight accepted samples
 pub record Weighing (h : History) : Type 0 where
   pub split : Split h
   pub last : NoneOf Weighs split.after
   pub entries : Entries
-  pub weighed : accepted as_weigh split.now ≡ some entries
+  pub weighed : accepted as_weigh split.now ≡ Some entries
   pub settings : Settings
-  pub opened : settings_then split.before ≡ some settings
+  pub opened : settings_then split.before ≡ Some settings
   pub eight : map (λ s. s.1) (take 8 (samples_sent split.before)) ≡ replicate 8 true
 
 -- the record of a weighing: what the settings, zero and tare then, the eight samples and the entries make
@@ -86,7 +85,7 @@ Stores switched_off = ⊥
 -- a store, acknowledged or cut, that programs the row
 pub record Programs (row : ℕ) (m : Moment) : Type 0 where
   pub stores : Stores m.event
-  pub place : next_row m.before.rows ≡ some row
+  pub place : next_row m.before.rows ≡ Some row
 
 -- the last store to program a row, and its weighing
 pub record StoreOf (row : ℕ) (h : History) : Type 0 where
@@ -102,7 +101,7 @@ pub record Kept (h : History) (rows : Rows) : Type 0 where
   -- each acknowledged record that is dated on or after the day of each later release is in exactly one row
   pub acknowledged_stay :
       (x : Split h) (n : ℕ) → x.now.event ≡ answered store (gives n)
-      → (w : Weighing x.before) × (AllOf (λ m. (r : Releasing) → released m ≡ some r → r.day ≤ w.entries.day) x.after
+      → (w : Weighing x.before) × (AllOf (λ m. (r : Releasing) → released m ≡ Some r → r.day ≤ w.entries.day) x.after
       → (row : ℕ) × Found rows row (numbered n (record_of w)) × ((other : ℕ) → Found rows other (numbered n (record_of w)) → other ≡ row))
   -- each record found was acknowledged, or power failed inside its store; it is what was weighed, with the number that was acknowledged
   pub found_were_weighed :
@@ -110,7 +109,7 @@ pub record Kept (h : History) (rows : Rows) : Type 0 where
       → (s : StoreOf row h) × (r ≡ numbered r.number (record_of s.weighing))
       × ((n : ℕ) → s.split.now.event ≡ answered store (gives n) → r.number ≡ n)
   -- along the round numbers rise and stamps never fall
-  pub in_order : disorder rows ≡ none
+  pub in_order : disorder rows ≡ None
   -- a later acknowledged record has a larger number, whatever was released
   pub numbers_rise :
       (x : Split h) (y : Split x.before) (n k : ℕ) → x.now.event ≡ answered store (gives n) → y.now.event ≡ answered store (gives k) → k < n

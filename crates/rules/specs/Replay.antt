@@ -1,6 +1,5 @@
 -- The replay of a trace: what each of its lines does to a terminal, and the bytes that it writes
-use Rattle.std.specs.Prelude.{ℕ, ◌+◌, List, [], ◌∷◌, ◌++◌, take, replicate}
-use Rattle.std.proofs.Math.Option.{none}
+use Rattle.std.specs.Prelude.{ℕ, ◌+◌, List, [], ◌∷◌, ◌++◌, take, replicate, None}
 use Rattle.rules.specs.Settings.{Settings, Checked, passed, refused, checked}
 use Rattle.rules.specs.Rows.{blank_row}
 use Rattle.rules.specs.Tickets.{decimal}
@@ -62,7 +61,7 @@ does s w (to_sample x) = acts (sample x) w
 does s w (to_press k) = acts (key k) w
 does s w (to_weigh e) = weighs_out e w
 does s w to_reopen = acts (opening s) w
-does s w (to_release day today) = acts (release (record { day = day; today = today; keep = none })) w
+does s w (to_release day today) = acts (release (record { day = day; today = today; keep = None })) w
 does s w (to_print n) = acts (print n 76) w
 
 -- the bytes that a line writes, and what it leaves: before a terminal is opened every line but a good beginning is refused 32

@@ -1,6 +1,5 @@
 -- A row of the memory: the 32 bytes of a record, read back, or blank
-use Rattle.std.specs.Prelude.{ℕ, ◌+◌, ◌-◌, ◌*◌, ◌/◌, ◌%◌, ◌^◌, Bool, cond, ◌&&◌, List, [], ◌∷◌, ◌++◌, take, replicate, ◌==◌, count_ones, slice_index}
-use Rattle.std.proofs.Math.Option.{Option, none, some}
+use Rattle.std.specs.Prelude.{ℕ, ◌+◌, ◌-◌, ◌*◌, ◌/◌, ◌%◌, ◌^◌, Bool, cond, ◌&&◌, List, [], ◌∷◌, ◌++◌, take, replicate, ◌==◌, count_ones, slice_index, Option, None, Some}
 use Rattle.rules.specs.Lists.{when_some, same, number_of, digits_of}
 use Rattle.rules.specs.Records.{Record, lawful}
 
@@ -52,7 +51,7 @@ unpacked row =
 
 -- the record of an intact row: the lawful record of which it is the packing
 unfoldable pub read_row : List ℕ → Option Record
-read_row row = let r : Record = unpacked row in cond (lawful r && same (packing r) row) (some r) none
+read_row row = let r : Record = unpacked row in cond (lawful r && same (packing r) row) (Some r) None
 
 -- ---- Blank rows
 

@@ -1,6 +1,5 @@
 -- The settings of a terminal: its class, its interval and its largest load, and the check that they pass
-use Rattle.std.specs.Prelude.{◌≡◌, ℕ, suc, ◌≤◌, cond, ◌||◌, ◌⊎◌, List, [], ◌∷◌, ◌==◌, nat_lt}
-use Rattle.std.proofs.Math.Option.{Option, none, some}
+use Rattle.std.specs.Prelude.{◌≡◌, ℕ, suc, ◌≤◌, cond, ◌||◌, ◌⊎◌, List, [], ◌∷◌, ◌==◌, nat_lt, Option, None, Some}
 use Rattle.rules.specs.Lists.{when_some}
 use Rattle.rules.specs.Loads.{six_intervals}
 
@@ -27,7 +26,7 @@ class_four = record { least = 100; most = 1000; min = 10 }
 
 -- by the number of the class, 3 or 4
 abbrev pub bounds_of : (class : ℕ) → Option Bounds
-bounds_of class = cond (class == 3) (some class_three) (cond (class == 4) (some class_four) none)
+bounds_of class = cond (class == 3) (Some class_three) (cond (class == 4) (Some class_four) None)
 
 -- the smallest load in intervals
 abbrev pub min_of : Settings → ℕ
@@ -37,8 +36,8 @@ min_of s = cond (s.class == 3) class_three.min class_four.min
 
 -- the place of kg in a list, counted from code
 abbrev pub place_of : (code kg : ℕ) → List ℕ → Option ℕ
-place_of code kg [] = none
-place_of code kg (k ∷ ks) = cond (k == kg) (some code) (place_of (suc code) kg ks)
+place_of code kg [] = None
+place_of code kg (k ∷ ks) = cond (k == kg) (Some code) (place_of (suc code) kg ks)
 
 -- the code of an interval of so many kg, where it is one of the six
 abbrev pub code_of_kg : (kg : ℕ) → Option ℕ

@@ -1,6 +1,5 @@
 -- The terminal over its memory: its state, its calls, and what each call answers and does
-use Rattle.std.specs.Prelude.{◌≡◌, ℕ, ◌+◌, ◌-◌, ◌*◌, ◌%◌, ◌^◌, Bool, true, false, cond, not, ◌&&◌, ◌||◌, List, [], ◌∷◌, ◌++◌, map, length, take, drop, ℤ, pos, negsuc, ◌-ℤ◌, ◌==◌, int_le, int_lt, nat_le, nat_lt, slice_set, unsigned_abs}
-use Rattle.std.proofs.Math.Option.{Option, none, some}
+use Rattle.std.specs.Prelude.{◌≡◌, ℕ, ◌+◌, ◌-◌, ◌*◌, ◌%◌, ◌^◌, Bool, true, false, cond, not, ◌&&◌, ◌||◌, List, [], ◌∷◌, ◌++◌, map, length, take, drop, ℤ, pos, negsuc, ◌-ℤ◌, ◌==◌, int_le, int_lt, nat_le, nat_lt, slice_set, unsigned_abs, Option, None, Some}
 use Rattle.rules.specs.Lists.{when_some, number_of}
 use Rattle.rules.specs.Loads.{mean, rounded, gross_of, stable}
 use Rattle.rules.specs.Settings.{Settings, min_of}
@@ -48,7 +47,7 @@ pub record World : Type 0 where
 
 -- there is power
 abbrev pub On : World → Type 0
-On w = (i : Indicator) × (w.on ≡ some i)
+On w = (i : Indicator) × (w.on ≡ Some i)
 
 -- ---- Calls
 
@@ -221,7 +220,7 @@ stored w i waiting = (refuses 20 0, w)
 stored w i ready = (refuses 20 0, w)
 stored w i (pending r) =
     unless (store_refusals w.rows r) w
-    (gives (next_number w.rows), record { rows = with_record w.rows r; writes = (w.writes + 1) % 2 ^ 32; on = some (with_state i waiting) })
+    (gives (next_number w.rows), record { rows = with_record w.rows r; writes = (w.writes + 1) % 2 ^ 32; on = Some (with_state i waiting) })
 
 -- whether no intact record has that number
 abbrev pub is_missing : Rows → ℕ → Bool
@@ -251,10 +250,10 @@ number_in line = number_of 10 0 (map (λ c. c - 48) (take 10 line))
 
 -- the first place, counted from k, at which two lines differ
 abbrev pub difference : ℕ → List ℕ → List ℕ → Option ℕ
-difference k [] [] = none
-difference k [] (y ∷ ys) = some k
-difference k (x ∷ xs) [] = some k
-difference k (x ∷ xs) (y ∷ ys) = cond (x == y) (difference (k + 1) xs ys) (some k)
+difference k [] [] = None
+difference k [] (y ∷ ys) = Some k
+difference k (x ∷ xs) [] = Some k
+difference k (x ∷ xs) (y ∷ ys) = cond (x == y) (difference (k + 1) xs ys) (Some k)
 
 abbrev pub verify_refusals : Rows → List ℕ → List Refusal
 verify_refusals rows line =
@@ -279,7 +278,7 @@ while_on w f = when_some w.on (refuses 0 0, w) f
 
 -- the world with another indicator
 abbrev pub with_indicator : World → Indicator → World
-with_indicator w i = record { rows = w.rows; writes = w.writes; on = some i }
+with_indicator w i = record { rows = w.rows; writes = w.writes; on = Some i }
 
 -- the answer to a call, and the world after it
 abbrev pub acts : Call → World → Answer × World

@@ -1,6 +1,5 @@
 -- A trace: text in lines, each of which asks a terminal for something
-use Rattle.std.specs.Prelude.{ℕ, ◌+◌, ◌-◌, cond, ◌&&◌, List, [], ◌∷◌, map, length, ℤ, pos, neg_ℤ, ◌==◌, nat_le}
-use Rattle.std.proofs.Math.Option.{Option, none, some}
+use Rattle.std.specs.Prelude.{ℕ, ◌+◌, ◌-◌, cond, ◌&&◌, List, [], ◌∷◌, map, length, ℤ, pos, neg_ℤ, ◌==◌, nat_le, Option, None, Some}
 use Rattle.rules.specs.Lists.{when_some, number_of}
 use Rattle.rules.specs.Terminal.{Key, set_zero, take_tare, clear_tare, preset_tare, Entries, all_digits}
 
@@ -22,13 +21,13 @@ lines (c ∷ cs) = cond (c == 10) ((c ∷ []) ∷ lines cs) (in_front c (lines c
 
 -- a, where nothing is left
 abbrev pub at_end : {A B : Type 0} → List B → A → Option A
-at_end [] a = some a
-at_end (b ∷ bs) a = none
+at_end [] a = Some a
+at_end (b ∷ bs) a = None
 
 -- what stands before the line feed that ends a line; none where no line feed does
 unfoldable pub text_of : (line : List ℕ) → Option (List ℕ)
-text_of [] = none
-text_of (c ∷ cs) = cond (c == 10) (at_end cs []) (when_some (text_of cs) none (λ t. some (c ∷ t)))
+text_of [] = None
+text_of (c ∷ cs) = cond (c == 10) (at_end cs []) (when_some (text_of cs) None (λ t. Some (c ∷ t)))
 
 -- ---- Words: the letter of a line, and its fields
 
@@ -39,26 +38,26 @@ words (c ∷ cs) = cond (c == 32) ([] ∷ words cs) (in_front c (words cs))
 
 -- one byte alone
 unfoldable pub a_byte : List ℕ → Option ℕ
-a_byte [] = none
+a_byte [] = None
 a_byte (c ∷ cs) = at_end cs c
 
 -- 1 to 9 digits
 unfoldable pub a_number : List ℕ → Option ℕ
-a_number word = cond (nat_le 1 (length word) && (nat_le (length word) 9 && all_digits word)) (some (number_of 10 0 (map (λ c. c - 48) word))) none
+a_number word = cond (nat_le 1 (length word) && (nat_le (length word) 9 && all_digits word)) (Some (number_of 10 0 (map (λ c. c - 48) word))) None
 
 -- a number, or one behind a minus, 45
 unfoldable pub a_load : List ℕ → Option ℤ
-a_load [] = none
+a_load [] = None
 a_load (c ∷ cs) =
-    cond (c == 45) (when_some (a_number cs) none (λ n. some (neg_ℤ (pos n)))) (when_some (a_number (c ∷ cs)) none (λ n. some (pos n)))
+    cond (c == 45) (when_some (a_number cs) None (λ n. Some (neg_ℤ (pos n)))) (when_some (a_number (c ∷ cs)) None (λ n. Some (pos n)))
 
 -- a number of at most 65,535
 unfoldable pub a_day : List ℕ → Option ℕ
-a_day word = when_some (a_number word) none (λ n. cond (nat_le n 65535) (some n) none)
+a_day word = when_some (a_number word) None (λ n. cond (nat_le n 65535) (Some n) None)
 
 -- 1 to 8 bytes, whatever they are
 unfoldable pub a_mark : List ℕ → Option (List ℕ)
-a_mark word = cond (nat_le 1 (length word) && nat_le (length word) 8) (some word) none
+a_mark word = cond (nat_le 1 (length word) && nat_le (length word) 8) (Some word) None
 
 -- the kinds of media
 pub data Kind : Type 0 where
@@ -66,7 +65,7 @@ pub data Kind : Type 0 where
 
 -- F or S
 unfoldable pub a_kind : List ℕ → Option Kind
-a_kind word = when_some (a_byte word) none (λ c. cond (c == 70) (some flash) (cond (c == 83) (some sectors) none))
+a_kind word = when_some (a_byte word) None (λ c. cond (c == 70) (Some flash) (cond (c == 83) (Some sectors) None))
 
 -- ---- What a line asks for
 
@@ -82,12 +81,12 @@ pub data Command : Type 0 where
 
 -- the first of these words as what it should be, with the words behind it
 abbrev pub first_as : {A : Type 0} → (List ℕ → Option A) → List (List ℕ) → Option (A × List (List ℕ))
-first_as it [] = none
-first_as it (w ∷ ws) = when_some (it w) none (λ a. some (a, ws))
+first_as it [] = None
+first_as it (w ∷ ws) = when_some (it w) None (λ a. Some (a, ws))
 
 -- and what comes of both
 abbrev pub next : {A B : Type 0} → (List ℕ → Option A) → List (List ℕ) → (A → List (List ℕ) → Option B) → Option B
-next it ws f = when_some (first_as it ws) none (λ p. f p.0 p.1)
+next it ws f = when_some (first_as it ws) None (λ p. f p.0 p.1)
 
 unfoldable pub asks_to_begin : (fields : List (List ℕ)) → Option Command
 asks_to_begin ws =
@@ -122,11 +121,11 @@ asks_by letter ws =
     cond (letter == 87) (asks_to_weigh ws) (
     cond (letter == 79) (at_end ws to_reopen) (
     cond (letter == 82) (asks_to_release ws) (
-    cond (letter == 76) (asks_to_print ws) none)))))))))
+    cond (letter == 76) (asks_to_print ws) None)))))))))
 
 -- what a line asks for; none where it is bad
 unfoldable pub command_of : (line : List ℕ) → Option Command
-command_of line = when_some (text_of line) none (λ text. next a_byte (words text) asks_by)
+command_of line = when_some (text_of line) None (λ text. next a_byte (words text) asks_by)
 
 -- ---- Reading line by line
 
@@ -141,5 +140,5 @@ reading_of n line = when_some (command_of line) (refused 32 n) asks
 
 -- after so many lines, with these left: the number of the next line and what is read of it, if there is one, and how many lines were read then and which are left
 abbrev pub next_line : (before : ℕ) → List (List ℕ) → Option (ℕ × Reading) × ℕ × List (List ℕ)
-next_line before [] = (none, before, [])
-next_line before (l ∷ ls) = (some (before + 1, reading_of (before + 1) l), before + 1, ls)
+next_line before [] = (None, before, [])
+next_line before (l ∷ ls) = (Some (before + 1, reading_of (before + 1) l), before + 1, ls)

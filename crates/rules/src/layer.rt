@@ -2,7 +2,7 @@ ghost use Rattle.std.specs.Prelude.{◌≡◌};
 ghost use Rattle.rules.specs.Faults.{layer_of};
 
 /// The layers of a terminal, from the lowest up. A fault belongs to one of them, by its number.
-#[derive(Clone, Copy, PartialEq, Eq)]
+#[derive(Clone, Copy, Debug, PartialEq, Eq)]
 pub enum Layer {
     Medium,
     Cell,
@@ -11,11 +11,11 @@ pub enum Layer {
     Trace,
 }
 
-impl Layer {
-    /// The layer of a fault, by its number.
-    pub fn of(number: u8) -> Layer
-        ensures { result ≡ layer_of number }
-    {
+/// The layer of a fault, by its number.
+impl From<u8> for Layer {
+    ghost from_gives = { λ number layer. layer ≡ layer_of number };
+
+    fn from(number: u8) -> Layer {
         match number {
             1..=3 => Layer::Medium,
             7 => Layer::Cell,

@@ -5,12 +5,16 @@
 
 #![tactic(auto)]
 
+mod blank;
+mod fault;
 mod layer;
 
 ghost use Rattle.rules.specs.Laws.{RoundsToNearest, PricesToNearest, StableIsWithinFive, CheckPassesGoodSettings, PackedRowsRead, ReadRowsArePacked, PackingsDiffer, WornRowsAreWhole, BlankRowsAreNotIntact, JudgeFindsIntactRows, NewestIsLargest, OrderIsRising, NumbersDiffer, NextRowIsNext, NextRowIsBlank, StoreKeepsOrder, CutStoreKeepsOrder, ReleasesOldPages, ErasesWholePages, ReleaseKeepsOrder, CutReleaseKeepsOrder, LinesHave76Bytes, VerifiesWhatIsFound, LinesDiffer, PrintsWhatIsFound, FirstStoreIsAccepted, LinesAreTheTrace, LinesEndAtLineFeeds, KindMakesNoDifference};
 ghost use Rattle.rules.specs.Cases.{WorkedCases, WorkedLines};
 ghost use Rattle.rules.specs.Promise.{KeepsRecords};
 
+pub use blank::is_blank;
+pub use fault::Fault;
 pub use layer::Layer;
 
 /// The cases worked by hand are what the rules compute.
