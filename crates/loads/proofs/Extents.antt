@@ -1,6 +1,5 @@
 -- One turn of the loop over the samples, and what a full window's extent says
-use Rattle.std.proofs.Common.{◌≡◌, ℕ, ◌+◌, ◌<◌, ◌≤◌, Bool, true, false, cond, ◌&&◌, eqb, List, length, get_or, take, drop, ℤ, pos, ◌+ℤ◌, ◌-ℤ◌, sym, refl, ap, ◌∙◌, arith}
-use mathlib.Core.Option.{none, some}
+use Rattle.std.proofs.Common.{◌≡◌, ℕ, ◌+◌, ◌<◌, ◌≤◌, Bool, true, false, cond, ◌&&◌, eqb, List, length, get_or, take, drop, ℤ, pos, ◌+ℤ◌, ◌-ℤ◌, sym, refl, ap, ◌∙◌, arith, None, Some}
 use lib.Signed.{le_z, lt_z}
 use Rattle.std.specs.Int.{int_max}
 use Rattle.std.proofs.lemmas.List.{drop_more, drop_all, take_all, length-take}
@@ -64,7 +63,7 @@ full_stable xs n high low len full eh el =
 
 -- the mean of a full window, from its sum
 pub full_mean : (xs : List ℤ) (n : ℕ) (total : ℤ) → length xs ≡ 8 → true ≡ eqb (length (take n xs)) 8 → total ≡ sum xs
-    → some (nearest 8 total) ≡ cond (eqb (length (take n xs)) 8) (some (mean (take n xs))) none
+    → Some (nearest 8 total) ≡ cond (eqb (length (take n xs)) 8) (Some (mean (take n xs))) None
 unfolding mean
 full_mean xs n total len full e =
-    ap (λ z. some (nearest 8 z)) (e ∙ ap sum (sym (whole xs n len full))) ∙ ap (λ b. cond b (some (mean (take n xs))) none) full
+    ap (λ z. Some (nearest 8 z)) (e ∙ ap sum (sym (whole xs n len full))) ∙ ap (λ b. cond b (Some (mean (take n xs))) None) full

@@ -1,5 +1,4 @@
--- The six intervals, a sample that joins a window, a window's extent, and settings that passed
-pub mod Places
+-- How large a rounded load may be, a sample that joins a window, and what a full window says
+pub mod Roundings
 pub mod Joins
 pub mod Extents
-pub mod Passing

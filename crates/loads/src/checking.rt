@@ -1,5 +1,4 @@
 ghost use Rattle.std.specs.Prelude.{◌≡◌, Ok, Err};
-ghost use Rattle.rules.specs.Faults.{layer_of};
 ghost use Rattle.rules.specs.Settings.{Passed, checked, min_of};
 ghost use Rattle.loads.specs.ClassesOf.{class_number};
 ghost use Rattle.loads.specs.IntervalsOf.{interval_code};
@@ -8,7 +7,7 @@ ghost use Rattle.loads.specs.SettingsOf.{settings_of, settings_fault_number, che
 use crate::class::Class;
 use crate::interval::Interval;
 use crate::settings::Settings;
-use rules::Layer;
+use rules::Fault;
 
 /// Why settings are refused: no such class, no such interval, or a largest load outside the class.
 #[derive(Clone, Copy, PartialEq, Eq)]
@@ -18,11 +17,12 @@ pub enum SettingsFault {
     Max,
 }
 
-impl SettingsFault {
-    /// The number of the refusal.
-    pub fn number(self) -> u8
-        ensures { result ≡ settings_fault_number self }
-    {
+impl Fault for SettingsFault {
+    ghost number_of = { settings_fault_number };
+
+    ghost place_of = { λ _. 0 };
+
+    fn number(self) -> u8 {
         match self {
             SettingsFault::Class => 4,
             SettingsFault::Interval => 5,
@@ -30,11 +30,8 @@ impl SettingsFault {
         }
     }
 
-    /// The layer that the refusal belongs to.
-    pub fn layer(self) -> Layer
-        ensures { result ≡ layer_of (settings_fault_number self) }
-    {
-        Layer::of(self.number())
+    fn place(self) -> usize {
+        0
     }
 }
 
@@ -44,12 +41,8 @@ impl Settings {
         ensures says { checked class kg max ≡ check_says result }
         ensures passed { elim result [ Ok s ↦ Passed (settings_of s) | Err _ ↦ Unit {0} ] }
     {
-        let Some(class) = Class::from_number(class) else {
-            return Err(SettingsFault::Class);
-        };
-        let Some(interval) = Interval::from_kg(kg) else {
-            return Err(SettingsFault::Interval);
-        };
+        let class = Class::try_from(class)?;
+        let interval = Interval::from_kg(kg).ok_or(SettingsFault::Interval)?;
         let bounds = class.bounds();
         if max < u32::from(bounds.least) || max > u32::from(bounds.most) {
             return Err(SettingsFault::Max);

@@ -1,8 +1,7 @@
-ghost use Rattle.std.specs.Prelude.{◌≡◌, ◌||◌, if◌then◌else◌, ◌==◌, nat_eq};
-ghost use Rattle.std.proofs.Math.Option.{none, some};
-ghost use Rattle.rules.specs.Lists.{told};
-ghost use Rattle.rules.specs.Settings.{bounds_of};
-ghost use Rattle.loads.specs.ClassesOf.{class_number, class_bounds};
+ghost use Rattle.std.specs.Prelude.{◌≡◌};
+ghost use Rattle.loads.specs.ClassesOf.{class_number, class_bounds, IsClassOf};
+
+use crate::checking::SettingsFault;
 
 /// The accuracy class of a terminal.
 #[derive(Clone, Copy, PartialEq, Eq)]
@@ -44,18 +43,6 @@ impl Class {
         }
     }
 
-    /// The class of a number, 3 or 4.
-    pub fn from_number(number: u32) -> Option<Class>
-        ensures number { told class_number result ≡ (if nat_eq number 3 || number == 4 then some number else none) }
-        ensures bounds { told class_bounds result ≡ bounds_of number }
-    {
-        match number {
-            3 => Some(Class::Three),
-            4 => Some(Class::Four),
-            _ => None,
-        }
-    }
-
     /// The bounds of the class.
     pub(crate) fn bounds(self) -> ClassBounds
         ensures least { result.least ≡ (class_bounds self).least }
@@ -63,5 +50,20 @@ impl Class {
         ensures min { result.min ≡ (class_bounds self).min }
     {
         CLASSES[self as usize]
+    }
+}
+
+/// The class of a number, 3 or 4.
+impl TryFrom<u32> for Class {
+    type Error = SettingsFault;
+
+    ghost try_from_gives = { IsClassOf };
+
+    fn try_from(number: u32) -> Result<Class, SettingsFault> {
+        match number {
+            3 => Ok(Class::Three),
+            4 => Ok(Class::Four),
+            _ => Err(SettingsFault::Class),
+        }
     }
 }

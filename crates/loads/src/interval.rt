@@ -1,6 +1,5 @@
-ghost use Rattle.std.specs.Prelude.{◌≡◌, if◌then◌else◌, nat_lt};
-ghost use Rattle.std.proofs.Math.Option.{none, some};
-ghost use Rattle.rules.specs.Lists.{told};
+ghost use Rattle.std.specs.Prelude.{◌≡◌, if◌then◌else◌, ◌==◌, nat_lt, None, Some, option_map};
+ghost use Rattle.std.specs.List.{find};
 ghost use Rattle.rules.specs.Loads.{kg_of};
 ghost use Rattle.rules.specs.Settings.{code_of_kg};
 ghost use Rattle.loads.specs.IntervalsOf.{interval_code};
@@ -29,6 +28,17 @@ const INTERVALS: [Interval; 6] = [
 /// The kg of each interval, by code.
 const KILOGRAMS: [u8; 6] = [1, 2, 5, 10, 20, 50];
 
+/// The first of these intervals that stands for so many kg.
+fn first_of_kg(intervals: &[Interval], kg: u32) -> Option<Interval>
+    ensures { result ≡ find (λ i. kg_of (interval_code i) == kg) intervals.now }
+{
+    intervals
+        .iter()
+        .copied()
+        .find(|interval| u32::from(interval.kg()) == kg)
+}
+
+// No `TryFrom`: an interval has two numbers, its code and its kg, and the name of the function says which is meant.
 impl Interval {
     /// The code that stands for the interval in a row, 0 to 5.
     pub fn code(self) -> u8
@@ -46,24 +56,15 @@ impl Interval {
 
     /// The interval of a code; none from 6 on.
     pub fn from_code(code: u8) -> Option<Interval>
-        ensures { told interval_code result ≡ (if nat_lt code 6 then some code else none) }
+        ensures { option_map interval_code result ≡ (if nat_lt code 6 then Some code else None) }
     {
-        if code < 6 {
-            Some(INTERVALS[code as usize])
-        } else {
-            None
-        }
+        INTERVALS.get(usize::from(code)).copied()
     }
 
     /// The interval of so many kg, if it is one of the six.
     pub fn from_kg(kg: u32) -> Option<Interval>
-        ensures { told interval_code result ≡ code_of_kg kg }
+        ensures { option_map interval_code result ≡ code_of_kg kg }
     {
-        for interval in INTERVALS {
-            if u32::from(interval.kg()) == kg {
-                return Some(interval);
-            }
-        }
-        None
+        first_of_kg(&INTERVALS, kg)
     }
 }

@@ -7,6 +7,7 @@ mod class;
 mod interval;
 mod pricing;
 mod readings;
+mod rounding;
 mod settings;
 mod tenths;
 mod window;

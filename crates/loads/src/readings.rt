@@ -1,10 +1,9 @@
-ghost use Rattle.std.specs.Prelude.{◌≡◌, ◌&&◌, [], ◌∷◌, ◌++◌, length, drop, pos, negsuc, ◌≤ℤ◌, if◌then◌else◌, ◌==◌, nat_eq, slice_index_or};
-ghost use Rattle.std.proofs.Math.Option.{none, some};
-ghost use Rattle.rules.specs.Lists.{told};
-ghost use Rattle.rules.specs.Loads.{sum as sum_of, mean as mean_of, highest, lowest, nearest, stable};
+ghost use Rattle.std.specs.Prelude.{◌≡◌, ◌&&◌, [], ◌∷◌, ◌++◌, length, drop, pos, negsuc, ◌≤ℤ◌, if◌then◌else◌, ◌==◌, nat_eq, slice_index_or, None, Some, option_map};
+ghost use Rattle.rules.specs.Loads.{sum as sum_of, mean as mean_of, highest, lowest, stable};
 ghost use Rattle.rules.specs.Terminal.{last_eight};
 ghost use Rattle.loads.specs.WindowsOf.{tenths_of, window_of};
 
+use crate::rounding::nearest;
 use crate::tenths::Tenths;
 use crate::window::Window;
 
@@ -16,23 +15,16 @@ struct Extent {
     sum: i64,
 }
 
-/// All but the oldest of eight samples, and a new one.
-fn slide(samples: [i32; 8], newest: i32) -> [i32; 8]
-    ensures { result ≡ drop 1 samples ++ (newest ∷ []) }
-{
-    [
-        samples[1], samples[2], samples[3], samples[4], samples[5], samples[6], samples[7], newest,
-    ]
-}
-
 impl Extent {
     /// The extent of eight samples.
+    #[tactic(auto, using(crate::proofs::Extents::sum_end, crate::proofs::Extents::lowest_end, crate::proofs::Extents::lowest_start, crate::proofs::Extents::highest_end, crate::proofs::Extents::highest_start))]
     fn of(samples: [i32; 8]) -> Extent
         ensures low { result.low ≡ lowest (slice_index_or samples 0 (pos 0)) (drop 1 samples) }
         ensures high { result.high ≡ highest (slice_index_or samples 0 (pos 0)) (drop 1 samples) }
         ensures sum { result.sum ≡ sum_of samples }
         ensures bounds { (negsuc 17179869183 ≤ℤ result.sum) × (result.sum ≤ℤ pos 17179869176) }
     {
+        // one `for` finds all three, by a rule of the project
         let mut low = samples[0];
         let mut high = samples[0];
         let mut sum = 0;
@@ -42,18 +34,6 @@ impl Extent {
             sum += i64::from(sample);
         }
         Extent { low, high, sum }
-    }
-}
-
-/// An eighth of the sum of eight samples: nearest, ties away from zero.
-fn eighth(sum: i64) -> Tenths
-    requires { (negsuc 17179869183 ≤ℤ sum) × (sum ≤ℤ pos 17179869176) }
-    ensures { result.0 ≡ nearest 8 sum }
-{
-    if sum < 0 {
-        Tenths(-((4 - sum) / 8) as i32)
-    } else {
-        Tenths(((sum + 4) / 8) as i32)
     }
 }
 
@@ -76,6 +56,7 @@ impl Window {
     }
 
     /// Takes in a sample; a full window drops its oldest.
+    #[tactic(auto, using(crate::proofs::Joins::joined_below, crate::proofs::Joins::joined_full))]
     pub fn push(&mut self, load: Tenths)
         ensures { window_of self.new ≡ last_eight (window_of self.old ++ (load.0 ∷ [])) }
     {
@@ -83,8 +64,8 @@ impl Window {
             self.samples[self.len] = load.0;
             self.len += 1;
         } else {
-            let slid = slide(self.samples, load.0);
-            self.samples = slid;
+            self.samples.rotate_left(1);
+            self.samples[7] = load.0;
         }
     }
 
@@ -96,17 +77,19 @@ impl Window {
     }
 
     /// The mean of a full window: nearest, ties away from zero.
+    #[tactic(auto, using(crate::proofs::Extents::full_mean, crate::proofs::Roundings::eighth_fits))]
     pub fn mean(&self) -> Option<Tenths>
-        ensures { told tenths_of result ≡ (if nat_eq (length (window_of self.now)) 8 then some (mean_of (window_of self.now)) else none) }
+        ensures { option_map tenths_of result ≡ (if nat_eq (length (window_of self.now)) 8 then Some (mean_of (window_of self.now)) else None) }
     {
         if self.is_full() {
-            Some(eighth(Extent::of(self.samples).sum))
+            Some(Tenths(nearest::<8>(Extent::of(self.samples).sum) as i32))
         } else {
             None
         }
     }
 
     /// Whether the window is full and its largest sample exceeds its smallest by at most 5 tenths.
+    #[tactic(auto, using(crate::proofs::Extents::full_stable))]
     pub fn is_stable(&self) -> bool
         ensures { result ≡ (length (window_of self.now) == 8 && stable (window_of self.now)) }
     {
@@ -119,7 +102,7 @@ impl Window {
 
     /// The mean of a window that is full and stable.
     pub fn settled(&self) -> Option<Tenths>
-        ensures { told tenths_of result ≡ (if nat_eq (length (window_of self.now)) 8 && stable (window_of self.now) then some (mean_of (window_of self.now)) else none) }
+        ensures { option_map tenths_of result ≡ (if nat_eq (length (window_of self.now)) 8 && stable (window_of self.now) then Some (mean_of (window_of self.now)) else None) }
     {
         if self.is_stable() { self.mean() } else { None }
     }

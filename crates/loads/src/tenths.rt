@@ -1,6 +1,8 @@
 ghost use Rattle.std.specs.Prelude.{◌≡◌, pos, negsuc, ◌-ℤ◌, ◌≤ℤ◌};
 ghost use Rattle.rules.specs.Loads.{rounded};
 
+use crate::rounding::nearest;
+
 /// A load in tenths of an interval, as the cell sends it.
 #[derive(Clone, Copy, PartialEq, Eq)]
 pub struct Tenths(pub i32);
@@ -9,26 +11,13 @@ pub struct Tenths(pub i32);
 #[derive(Clone, Copy, PartialEq, Eq)]
 pub struct Intervals(pub i32);
 
-/// The nearest whole number of intervals, ties away from zero, of the difference between two loads in tenths.
-fn nearest_interval(tenths: i64) -> Intervals
-    requires { (negsuc 4294967294 ≤ℤ tenths) × (tenths ≤ℤ pos 4294967295) }
-    ensures value { result.0 ≡ rounded tenths }
-    ensures bounds { (negsuc 429496729 ≤ℤ result.0) × (result.0 ≤ℤ pos 429496730) }
-{
-    if tenths < 0 {
-        Intervals(-((5 - tenths) / 10) as i32)
-    } else {
-        Intervals(((tenths + 5) / 10) as i32)
-    }
-}
-
 impl Tenths {
     /// This load above a zero, rounded to whole intervals: nearest, ties away from zero.
     pub fn above(self, zero: Tenths) -> Intervals
         ensures value { result.0 ≡ rounded (self.0 -ℤ zero.0) }
         ensures bounds { (negsuc 429496729 ≤ℤ result.0) × (result.0 ≤ℤ pos 429496730) }
     {
-        nearest_interval(i64::from(self.0) - i64::from(zero.0))
+        Intervals(nearest::<10>(i64::from(self.0) - i64::from(zero.0)) as i32)
     }
 
     /// This load rounded to whole intervals.

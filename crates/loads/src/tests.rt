@@ -1,4 +1,5 @@
 use crate::{Settings, Tenths, Window, price};
+use rules::Fault;
 use std::test::Fail;
 
 #[test]

@@ -1,5 +1,6 @@
 ghost use Rattle.std.specs.Prelude.{◌≤◌};
 
+// No `Model`: seen as a list, a window forgets its places past `len`, so a copy would ask that `clear` and `push` hold them at 0.
 /// The last eight samples in tenths of an interval, oldest first.
 #[derive(Clone, Copy)]
 pub struct Window {
