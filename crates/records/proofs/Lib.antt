@@ -1,5 +1,6 @@
 -- Bits in words
 pub mod PackedBits
+pub mod DigitsOut
 pub mod Bases
 pub mod Marking
 pub mod Lawful

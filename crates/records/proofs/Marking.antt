@@ -1,64 +1,76 @@
 -- The codes of a mark, looked at one by one
-use Rattle.std.proofs.Common.{◌≡◌, ℕ, zero, suc, ◌+◌, ◌-◌, ◌*◌, ◌/◌, ◌%◌, ◌^◌, ◌<◌, ◌≤◌, Bool, true, false, cond, ◌&&◌, eqb, ltb, leb, ◌⊎◌, List, [], ◌∷◌, ◌++◌, map, length, get_or, take, drop, set, replicate, sym, refl, ap, ◌∙◌, inl, inr, arith}
+use Rattle.std.proofs.Common.{◌≡◌, ℕ, zero, suc, ◌+◌, ◌-◌, ◌*◌, ◌^◌, ◌<◌, ◌≤◌, Bool, true, false, cond, ◌&&◌, eqb, ltb, leb, List, [], ◌∷◌, ◌++◌, map, length, get_or, take, drop, set, replicate, sym, refl, ap, ◌∙◌, arith}
 use Rattle.std.specs.Int.Digits.{AllBelowBase}
 use Rattle.std.specs.List.{AllByRecursion as All}
 use Rattle.std.proofs.lemmas.Int.Digits.{number_after_ge, number_after_append, number_lt, number_more}
 use Rattle.std.proofs.ByRecursion.{All-get_or, All-weaker}
-use Rattle.std.proofs.lemmas.List.{append_assoc, drop_more, drop_all, drop-set, set_at, map_more, take_all, take-append-drop, length-append, length-map, length-replicate, length-take-le}
-use Rattle.std.proofs.lemmas.Bool.{and_parts, eq-eqb, ne_eqb, eqb-true, le-leb, lt-leb, leb-true}
-use Rattle.rules.specs.Lists.{number_of, digits_of}
+use Rattle.std.proofs.lemmas.List.{append-nil, drop-replicate, drop_more, drop_all, map-append, take_all, take-append-drop, length-append, length-map, length-replicate, length-take-le}
+use Rattle.std.proofs.lemmas.List.Edits.{map_over_more}
+use Rattle.std.proofs.lemmas.Grind.{get_or_default_zero}
+use Rattle.std.proofs.Math.Seq.{get_or-append_seam}
+use Rattle.std.proofs.lemmas.Bool.{and_parts, eq-eqb, ne_eqb, eqb-true, eqb-false, lt-ltb, ltb-false, leb-true}
+use Rattle.std.specs.Prelude.{◌==◌, nat_le, nat_lt, position, unwrap_or, Some, None}
+use Rattle.std.specs.List.{list_all, position_or_len}
+use Rattle.std.proofs.Math.Bool.{and_assoc, not}
+use Rattle.std.proofs.lemmas.List.Sums.{prefix_len-le-length}
+use Rattle.rules.specs.Lists.{number_of}
 use Rattle.rules.specs.Records.{spaces_last, lawful_mark, code_of, typed_mark}
 
--- whether the codes that are left are lawful; once a space came they are to be spaces
-abbrev pub left_ok : List ℕ → (ended : Bool) → Bool
-left_ok cs ended = cond ended (eqb (number_of 64 0 cs) 0) (spaces_last cs)
+-- codes write the number 0 where each is a space
+zero_number : (cs : List ℕ) → eqb (number_of 64 0 cs) 0 ≡ list_all (λ c. c == 0) cs
+unfolding number_of
+zero_number [] = refl
+zero_number (c ∷ cs) = by_test (eqb c 0) refl (zero_number cs)
+  where
+    by_test : (b : Bool) → eqb c 0 ≡ b → eqb (number_of 64 0 cs) 0 ≡ list_all (λ d. d == 0) cs → eqb (number_of 64 (0 * 64 + c) cs) 0 ≡ (b && list_all (λ d. d == 0) cs)
+    by_test true e rest = ap (λ d. eqb (number_of 64 (0 * 64 + d) cs) 0) (eqb-true c 0 e) ∙ rest
+    by_test false e rest =
+        let some : c ≡ 0 → ⊥ = eqb-false c 0 e in
+        ne_eqb (number_of 64 (0 * 64 + c) cs) 0 (λ z. some (omega (arith, number_after_ge 64 (0 * 64 + c) cs (omega arith))))
 
-space_next : (c : ℕ) (cs : List ℕ) (ended : Bool) → c ≡ 0 → left_ok (c ∷ cs) ended ≡ left_ok cs true
-unfolding spaces_last number_of
-space_next c cs true e = rw e
-space_next c cs false e = rw e
+-- what stands before the first space, and what stands from it on
+abbrev pub parts_at : ℕ → List ℕ → Bool
+parts_at n cs = list_all (λ c. nat_le c 36) (take n cs) && list_all (λ c. c == 0) (drop n cs)
 
-character_next : (c : ℕ) (cs : List ℕ) → (c ≡ 0 → ⊥) → c ≤ 36 → left_ok (c ∷ cs) false ≡ left_ok cs false
+spaces_split : (cs : List ℕ) → spaces_last cs ≡ parts_at (position_or_len (λ c. c == 0) cs) cs
 unfolding spaces_last
-character_next c cs ne small = rw (ne_eqb c 0 ne, le-leb c 36 small)
+spaces_split [] = refl
+spaces_split (c ∷ cs) = by_test (eqb c 0) refl (spaces_split cs)
+  where
+    by_test :
+        (b : Bool) → eqb c 0 ≡ b → spaces_last cs ≡ parts_at (position_or_len (λ d. d == 0) cs) cs
+        → cond b (number_of 64 0 cs == 0) (nat_le c 36 && spaces_last cs) ≡ parts_at (cond (not b) (1 + position_or_len (λ d. d == 0) cs) 0) (c ∷ cs)
+    by_test true e rest = zero_number cs ∙ sym (ap (λ b. b && list_all (λ d. d == 0) cs) e)
+    by_test false e rest =
+        let n : ℕ = position_or_len (λ d. d == 0) cs in
+        let more : suc n ≡ 1 + n = omega arith in
+        ap (λ b. nat_le c 36 && b) rest ∙ sym (and_assoc (nat_le c 36) (list_all (λ d. nat_le d 36) (take n cs)) (list_all (λ d. d == 0) (drop n cs)))
+        ∙ ap (λ k. parts_at k (c ∷ cs)) more
 
-wrong_next : (c : ℕ) (cs : List ℕ) (ended : Bool) → (c ≡ 0 → ⊥) → (ended ≡ true) ⊎ (36 < c) → left_ok (c ∷ cs) ended ≡ false
-unfolding spaces_last number_of
-wrong_next c cs true ne h = ne_eqb (number_of 64 (0 * 64 + c) cs) 0 (λ z. absurd (omega (arith, number_after_ge 64 (0 * 64 + c) cs (omega arith))))
-wrong_next c cs false ne (inl e) = cc
-wrong_next c cs false ne (inr big) = rw (ne_eqb c 0 ne, lt-leb c 36 big)
+-- the first code is no space where the first space stands later
+first_not_space : (m : List ℕ) → 0 < length m → nat_lt 0 (get_or m 0 0) ≡ nat_lt 0 (position_or_len (λ c. c == 0) m)
+first_not_space [] h = absurd (omega arith)
+first_not_space (c ∷ cs) h = by_test (eqb c 0) refl
+  where
+    by_test : (b : Bool) → eqb c 0 ≡ b → nat_lt 0 c ≡ nat_lt 0 (cond (not b) (1 + position_or_len (λ d. d == 0) cs) 0)
+    by_test true e = ap (nat_lt 0) (eqb-true c 0 e)
+    by_test false e =
+        let some : c ≡ 0 → ⊥ = eqb-false c 0 e in
+        lt-ltb 0 c (omega arith) ∙ sym (lt-ltb 0 (1 + position_or_len (λ d. d == 0) cs) (omega arith))
 
-module _ (codes : List ℕ) (i : ℕ) (inside : i < length codes) where
-  front : drop i codes ≡ get_or codes i 0 ∷ drop (i + 1) codes
-  front = drop_more codes i 0 inside
-
-  pub space_more : (ended : Bool) → get_or codes i 0 ≡ 0 → left_ok (drop i codes) ended ≡ left_ok (drop (i + 1) codes) true
-  space_more ended e = ap (λ cs. left_ok cs ended) front ∙ space_next (get_or codes i 0) (drop (i + 1) codes) ended e
-
-  pub character_more : (get_or codes i 0 ≡ 0 → ⊥) → get_or codes i 0 ≤ 36 → left_ok (drop i codes) false ≡ left_ok (drop (i + 1) codes) false
-  character_more ne small = ap (λ cs. left_ok cs false) front ∙ character_next (get_or codes i 0) (drop (i + 1) codes) ne small
-
-  pub wrong_here : (ended : Bool) → (get_or codes i 0 ≡ 0 → ⊥) → (ended ≡ true) ⊎ (36 < get_or codes i 0) → left_ok (drop i codes) ended ≡ false
-  wrong_here ended ne h = ap (λ cs. left_ok cs ended) front ∙ wrong_next (get_or codes i 0) (drop (i + 1) codes) ended ne h
-
--- all codes were looked at
-pub none_left : (codes : List ℕ) (i : ℕ) (ended : Bool) → length codes ≤ i → left_ok (drop i codes) ended ≡ true
-unfolding spaces_last number_of
-none_left codes i true past = ap (λ cs. left_ok cs true) (drop_all i codes past)
-none_left codes i false past = ap (λ cs. left_ok cs false) (drop_all i codes past)
-
--- the verdict on a mark of eight codes
-pub mark_by : (codes : List ℕ) (ok : Bool) → length codes ≡ 8 → spaces_last codes ≡ ok → lawful_mark codes ≡ (ltb 0 (get_or codes 0 0) && ok)
+-- a mark is some characters, and spaces from the first space on
+pub mark_by : (m : List ℕ) (len : ℕ) → length m ≡ 8 → len ≡ unwrap_or (position (λ c. c == 0) m) 8 → lawful_mark m ≡ (nat_lt 0 len && parts_at len m)
 unfolding lawful_mark
-mark_by codes ok size e = rw (eq-eqb (length codes) 8 size, e)
+mark_by m len size e =
+    rw (eq-eqb (length m) 8 size) (ap (λ b. b && spaces_last m) (first_not_space m (omega arith)) ∙ ap (λ b. nat_lt 0 n && b) (spaces_split m)
+    ∙ ap (λ k. nat_lt 0 k && parts_at k m) (sym (e ∙ by_test (nat_lt n (length m)) refl)))
+  where
+    n : ℕ
+    n = position_or_len (λ c. c == 0) m
 
-pub and_false : (b : Bool) → (b && false) ≡ false
-and_false true = refl
-and_false false = refl
-
-pub and_true : (b : Bool) → (b && true) ≡ b
-and_true true = refl
-and_true false = refl
+    by_test : (b : Bool) → nat_lt n (length m) ≡ b → unwrap_or (cond b (Some n) None) 8 ≡ n
+    by_test true t = refl
+    by_test false t = omega (arith, ltb-false n (length m) t, prefix_len-le-length (λ c. not (c == 0)) m)
 
 -- ---- The codes of a lawful mark
 
@@ -107,38 +119,51 @@ code_more m i v ok inside e =
     let here : get_or m i 0 < 64 = All-get_or (λ c. c < 64) m i 0 (omega (arith, known.0)) under in
     (omega arith, omega arith, omega arith)
 
--- ---- Digits written from the last to the first
+-- ---- Elements that are changed one after another
 
-pub digits_step : (b i j v : ℕ) (xs : List ℕ) → j + 1 ≡ i → j < length xs → digits_of b i v ++ drop i xs ≡ digits_of b j (v / b) ++ drop j (set xs j (v % b))
-unfolding digits_of
-digits_step b i j v xs s l =
-    let t : i ≡ suc j = omega arith in
-    ap (λ n. digits_of b n v ++ drop i xs) t ∙ append_assoc (digits_of b j (v / b)) (v % b ∷ []) (drop i xs)
-    ∙ ap (λ ys. digits_of b j (v / b) ++ ys) (sym (drop-set xs j (v % b) l ∙ ap (λ n. v % b ∷ drop n xs) s))
+module _ (f : ℕ → ℕ) (xs ys : List ℕ) (i : ℕ) (so_far : ys ≡ map f (take i xs) ++ drop i xs) where
+  -- those from place i on are as they were
+  pub unchanged : i < length xs → get_or ys i 0 ≡ get_or xs i 0
+  unchanged inside =
+      let front : List ℕ = map f (take i xs) in
+      let size : length front ≡ i = length-map (take i xs) f ∙ length-take-le i xs (omega arith) in
+      ap (λ l. get_or l i 0) (so_far ∙ ap (λ l. front ++ l) (drop_more xs i 0 inside))
+      ∙ ap (λ n. get_or (front ++ (get_or xs i 0 ∷ drop (i + 1) xs)) n 0) (sym size) ∙ get_or-append_seam front (get_or xs i 0) (drop (i + 1) xs) 0
 
-pub digits_done : (b i v w n : ℕ) (xs : List ℕ) → i ≡ 0 → digits_of b n v ≡ digits_of b i w ++ drop i xs → xs ≡ digits_of b n v
-unfolding digits_of
-digits_done b zero v w n xs z e = sym e
-digits_done b (suc i) v w n xs z e = absurd (omega arith)
+  -- the one at place i is changed
+  pub one_changed : (v : ℕ) → i < length xs → i < length ys → v ≡ f (get_or ys i 0) → set ys i v ≡ map f (take (i + 1) xs) ++ drop (i + 1) xs
+  one_changed v inside within is =
+      let x : ℕ = get_or ys i 0 in
+      ap (set ys i) is ∙ map_over_more f xs ys i x inside so_far (sym (get_or_default_zero ys i x within))
+
+  pub all_changed : length xs ≤ i → ys ≡ map f xs
+  all_changed past =
+      so_far ∙ ap (λ l. map f l ++ drop i xs) (take_all i xs past) ∙ ap (λ l. map f xs ++ l) (drop_all i xs past) ∙ append-nil (map f xs)
 
 -- ---- A mark as it was typed
 
-pub typed_more : (bytes codes : List ℕ) (i v : ℕ) → i < length bytes → i < 8 → codes ≡ map code_of (take i bytes) ++ replicate (8 - i) 0 → v ≡ code_of (get_or bytes i 0)
-    → set codes i v ≡ map code_of (take (i + 1) bytes) ++ replicate (8 - (i + 1)) 0
-typed_more bytes codes i v inside room e is =
-    let size : length (map code_of (take i bytes)) ≡ i = length-map (take i bytes) code_of ∙ length-take-le i bytes (omega arith) in
-    let left : 8 - i ≡ suc (8 - (i + 1)) = omega arith in
-    ap (λ cs. set cs i v) (e ∙ ap (λ n. map code_of (take i bytes) ++ replicate n 0) left)
-    ∙ set_at (map code_of (take i bytes)) 0 (replicate (8 - (i + 1)) 0) v i size
-    ∙ ap (λ c. map code_of (take i bytes) ++ (c ∷ replicate (8 - (i + 1)) 0)) is
-    ∙ sym (append_assoc (map code_of (take i bytes)) (code_of (get_or bytes i 0) ∷ []) (replicate (8 - (i + 1)) 0))
-    ∙ ap (λ cs. cs ++ replicate (8 - (i + 1)) 0) (sym (map_more code_of bytes i 0 inside))
+-- a code that is too large is no mark's
+pub no_mark : (m : List ℕ) (i : ℕ) → i < length m → 36 < get_or m i 0 → lawful_mark m ≡ false
+no_mark m i inside large = by_test (lawful_mark m) refl
+  where
+    by_test : (b : Bool) → lawful_mark m ≡ b → lawful_mark m ≡ false
+    by_test true ok = absurd (omega (arith, large, All-get_or (λ c. c ≤ 36) m i 0 inside (codes_known m ok).1))
+    by_test false e = e
 
-pub typed_done : (bytes codes : List ℕ) (i : ℕ) → length bytes ≤ i → i ≤ length bytes → codes ≡ map code_of (take i bytes) ++ replicate (8 - i) 0 → codes ≡ typed_mark bytes
+-- the characters, filled up with spaces, have the codes of the mark
+pub filled_up :
+    (bytes padded : List ℕ) → length bytes ≤ 8 → padded ≡ bytes ++ drop (length bytes) (replicate 8 32) → (map code_of padded ≡ typed_mark bytes) × (length padded ≡ 8)
 unfolding typed_mark
-typed_done bytes codes i past inside e =
-    let i_is : i ≡ length bytes = omega arith in
-    e ∙ ap (λ bs. map code_of bs ++ replicate (8 - i) 0) (take_all i bytes past) ∙ ap (λ n. map code_of bytes ++ replicate (8 - n) 0) i_is
+filled_up bytes padded few e =
+    let k : ℕ = 8 - length bytes in
+    let is : padded ≡ bytes ++ replicate k 32 = e ∙ ap (λ l. bytes ++ l) (drop-replicate (length bytes) 8 32) in (
+      ap (map code_of) is ∙ map-append code_of bytes (replicate k 32) ∙ ap (λ l. map code_of bytes ++ l) (spaces k),
+      ap length is ∙ length-append bytes (replicate k 32) ∙ omega (arith, length-replicate {A = ℕ} k 32),
+    )
+  where
+    spaces : (n : ℕ) → map code_of (replicate n 32) ≡ replicate n 0
+    spaces zero = refl
+    spaces (suc n) = ap (λ l. 0 ∷ l) (spaces n)
 
 -- more than eight characters are no mark
 pub long_is_no_mark : (bytes : List ℕ) → 8 < length bytes → lawful_mark (typed_mark bytes) ≡ false

@@ -1,6 +1,5 @@
 -- A row by its number: its words, its check and its fields
-use Rattle.std.proofs.Common.{◌≡◌, ℕ, ◌+◌, ◌-◌, ◌*◌, ◌/◌, ◌%◌, ◌^◌, ◌<◌, ◌≤◌, Bool, true, false, cond, ◌&&◌, eqb, List, [], ◌∷◌, ◌++◌, length, get_or, take, replicate, sym, refl, ap, ◌∙◌, arith}
-use mathlib.Core.Option.{none, some}
+use Rattle.std.proofs.Common.{◌≡◌, ℕ, ◌+◌, ◌-◌, ◌*◌, ◌/◌, ◌%◌, ◌^◌, ◌<◌, ◌≤◌, Bool, true, false, cond, ◌&&◌, eqb, List, [], ◌∷◌, ◌++◌, length, get_or, take, replicate, sym, refl, ap, ◌∙◌, arith, None, Some}
 use lib.Count.{ones, ones_cat, ones-le}
 use Rattle.std.specs.Int.Digits.{AllBelowBase}
 use Rattle.std.proofs.lemmas.Nat.{div-mul-add, mod-mul-add, div_below}
@@ -102,7 +101,7 @@ module _ (row : List ℕ) (size : length row ≡ 32) (bytes : AllBelowBase 256 r
   zeros_number : zeros (take 31 row) ≡ 248 - ones (number_of 256 0 row / 256)
   zeros_number =
       let all = zeros_and_ones 0 (take 31 row) body_bytes in
-      let none : ones 0 ≡ 0 = omega (arith, ones-le 0 0 (omega arith)) in
+      let None : ones 0 ≡ 0 = omega (arith, ones-le 0 0 (omega arith)) in
       omega (arith, all, body_size, ap ones body_number)
 
   pub checked_number : is_checked row ≡ eqb (number_of 256 0 row % 256) (248 - ones (number_of 256 0 row / 256))
@@ -178,11 +177,11 @@ module _ (row : List ℕ) (size : length row ≡ 32) (bytes : AllBelowBase 256 r
         (sym (mine 0 (omega arith)) ∙ its 0 (omega arith), sym (mine 12 (omega arith)) ∙ its 12 (omega arith))
 
     -- so the row is intact exactly where the fields say so
-    pub read_by_fields : is_checked row ≡ true → read_row row ≡ cond (is_record f) (some (record_in f)) none
+    pub read_by_fields : is_checked row ≡ true → read_row row ≡ cond (is_record f) (Some (record_in f)) None
     unfolding read_row
     read_by_fields checked =
-        ap (λ r. cond (lawful r && same (packing r) row) (some r) none) unpacked_is
-        ∙ ap (λ b. cond b (some (record_in f)) none)
+        ap (λ r. cond (lawful r && same (packing r) row) (Some r) None) unpacked_is
+        ∙ ap (λ b. cond b (Some (record_in f)) None)
         (tests (lawful (record_in f)) (same (packing (record_in f)) row) (eqb f.kind 0xa1) (eqb f.spare (2 ^ 37 - 1))
         (λ ok e. let h = packed_then ok (same_list (packing (record_in f)) row e) in (eq-eqb f.kind 0xa1 h.0, eq-eqb f.spare (2 ^ 37 - 1) h.1))
         (λ a b. ap (λ r. same r row) (whole checked (eqb-true f.kind 0xa1 a) (eqb-true f.spare (2 ^ 37 - 1) b)) ∙ same_self row))
@@ -215,7 +214,7 @@ packed_row r ok a b c d check e count =
     let ds : List ℕ = digits_of 256 31 s in
     let back : number_of 256 0 ds ≡ s = number_of_digits 256 31 s (omega arith) (side_below (fields r) (lawful_fits r ok)) in
     let all : zeros ds + ones (number_of 256 0 ds) ≡ 8 * length ds + ones 0 = zeros_and_ones 0 ds (digits_under 256 31 s (omega arith)) in
-    let none : ones 0 ≡ 0 = omega (arith, ones-le 0 0 (omega arith)) in
+    let None : ones 0 ≡ 0 = omega (arith, ones-le 0 0 (omega arith)) in
     let check_is : check ≡ zeros ds = omega (arith, count, ap ones body, all, ap ones back, digits_length 256 31 s) in
     let small : check < 256 = omega arith in
     ap (digits_of 256 32) number

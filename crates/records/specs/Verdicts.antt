@@ -1,6 +1,5 @@
 -- What the judge of a row and the packing of a record say, in the rules' words
-use Rattle.std.specs.Prelude.{ℕ, List, Ok, Err, Result}
-use Rattle.std.proofs.Math.Option.{Option, none, some}
+use Rattle.std.specs.Prelude.{ℕ, List, Ok, Err, Result, Option, None, Some}
 use Rattle.rules.specs.Rows.{Verdict as TheVerdict, blank, wrong_check, wrong_fields, intact}
 use Rattle.records.specs.declared.row.Verdict.{Verdict}
 use Rattle.records.specs.declared.row.Verdict.TheVariants.{Blank, Damaged, Intact}
@@ -16,5 +15,5 @@ verdict_of (Intact r) = intact (record_of r)
 
 -- the row, where the record has one
 abbrev pub packed_says : Result (List ℕ) Unlawful → Option (List ℕ)
-packed_says (Ok row) = some row
-packed_says (Err e) = none
+packed_says (Ok row) = Some row
+packed_says (Err e) = None

@@ -1,9 +1,8 @@
 //! Fields of a few bits each, side by side in words of 64 bits, through an accumulator.
 
-ghost use Rattle.std.specs.Prelude.{◌≡◌, ◌+◌, ◌-◌, ◌*◌, ◌/◌, ◌%◌, ◌^◌, ◌<◌, ◌≤◌};
+ghost use Rattle.std.specs.Prelude.{◌≡◌, ◌+◌, ◌-◌, ◌*◌, ◌/◌, ◌%◌, ◌^◌, ◌<◌, ◌≤◌, length};
 ghost use Rattle.rules.specs.Lists.{number_of};
 ghost use Rattle.records.specs.Widths.{width_of};
-ghost use Rattle.records.specs.Streams.{Steady, unread, bits_unread, Sound, written, bits_written};
 
 /// A field of a row.
 #[derive(Clone, Copy)]
@@ -61,11 +60,16 @@ pub(crate) struct Reader {
     next: usize,
     held: u64,
     bits: u32,
+    ghost fits: { held < 2 ^ bits },
+    ghost few: { bits ≤ 64 },
+    ghost within: { next ≤ 4 },
+    ghost whole: { length words ≡ 4 },
 }
 
 impl Reader {
+    ghost use Rattle.records.specs.Streams.{unread, bits_unread};
+
     pub(crate) fn new(words: [u64; 4]) -> Reader
-        ensures steady { Steady result }
         ensures all { unread result ≡ number_of (2 ^ 64) 0 words }
         ensures count { bits_unread result ≡ 256 }
     {
@@ -79,9 +83,7 @@ impl Reader {
 
     /// The value of the next field.
     pub(crate) fn take(&mut self, field: Field) -> u64
-        requires steady { Steady self.old }
         requires enough { width_of field ≤ bits_unread self.old }
-        ensures steady { Steady self.new }
         ensures split { unread self.old ≡ result * 2 ^ bits_unread self.new + unread self.new }
         ensures count { bits_unread self.new + width_of field ≡ bits_unread self.old }
         ensures fits { result < 2 ^ width_of field }
@@ -107,17 +109,22 @@ impl Reader {
 }
 
 /// Lays fields side by side in four words, from the most significant bit on.
+// Not one struct with `Reader`: that holds up to 64 bits and this fewer, and each clause reads the words from its own end.
 #[derive(Drop)]
 pub(crate) struct Writer {
     words: [u64; 4],
     next: usize,
     held: u64,
     bits: u32,
+    ghost fits: { held < 2 ^ bits },
+    ghost few: { bits < 64 },
+    ghost within: { next ≤ 4 },
 }
 
 impl Writer {
+    ghost use Rattle.records.specs.Streams.{written, bits_written};
+
     pub(crate) fn new() -> Writer
-        ensures sound { Sound result }
         ensures none { written result ≡ 0 }
         ensures count { bits_written result ≡ 0 }
     {
@@ -131,10 +138,8 @@ impl Writer {
 
     /// One field more.
     pub(crate) fn put(&mut self, field: Field, value: u64)
-        requires sound { Sound self.old }
         requires fits { value < 2 ^ width_of field }
         requires room { bits_written self.old + width_of field ≤ 256 }
-        ensures sound { Sound self.new }
         ensures value { written self.new ≡ written self.old * 2 ^ width_of field + value }
         ensures count { bits_written self.new ≡ bits_written self.old + width_of field }
     {
@@ -154,8 +159,7 @@ impl Writer {
 
     /// The words, once all bits are written.
     pub(crate) fn finish(self) -> [u64; 4]
-        requires sound { Sound self }
-        requires full { bits_written self ≡ 256 }
+        requires { bits_written self ≡ 256 }
         ensures { number_of (2 ^ 64) 0 result ≡ written self }
     {
         self.words

@@ -1,16 +1,15 @@
 //! The fields of a row as plain numbers, in words and out of words.
 
-ghost use Rattle.std.specs.Prelude.{◌≡◌, ◌*◌, ◌/◌, ◌^◌, ◌<◌, true, if◌then◌else◌};
-ghost use Rattle.std.proofs.Math.Option.{none, some};
-ghost use Rattle.rules.specs.Lists.{number_of, told};
+ghost use Rattle.std.specs.Prelude.{◌≡◌, ◌*◌, ◌/◌, ◌^◌, ◌<◌, true, if◌then◌else◌, None, Some, option_map};
+ghost use Rattle.rules.specs.Lists.{number_of};
 ghost use Rattle.rules.specs.Records.{lawful};
 ghost use Rattle.rules.specs.Rows.{fields as fields_of, side_by_side};
 ghost use Rattle.records.specs.FieldsOf.{field_list, FitsWidths, is_record, record_in, TareSays};
-ghost use Rattle.records.specs.RecordsOf.{bounded, record_of};
+ghost use Rattle.records.specs.RecordsOf.{record_of};
 
 use crate::bits::{Field, Reader, Writer};
 use crate::mark::Mark;
-use crate::record::{Record, Tare, Weight, are_bounded};
+use crate::record::{Record, Tare, Weight};
 use loads::Interval;
 
 /// What the field of the kind holds in the row of a record.
@@ -20,6 +19,7 @@ const KIND: u8 = 0xA1;
 const SPARE: u64 = 0x1F_FFFF_FFFF;
 
 /// The fields of a row but for the check.
+// Numbers, not kinds: a row may hold a kind, an interval or a kind of tare that there is none of.
 #[derive(Clone, Copy)]
 pub(crate) struct Fields {
     kind: u8,
@@ -118,43 +118,27 @@ impl Fields {
         }
     }
 
-    /// Whether the numbers in the fields lie within their bounds.
-    fn are_bounded(self) -> bool
-        ensures { result ≡ bounded self.number self.minute self.gross self.tare self.net self.unit_price }
-    {
-        are_bounded(
-            self.number,
-            self.minute,
-            Weight(self.gross),
-            Weight(self.tare),
-            Weight(self.net),
-            self.unit_price,
-        )
-    }
-
     /// The record in the fields, if it is lawful.
     pub(crate) fn record(self) -> Option<Record>
-        ensures { told record_of result ≡ (if is_record self then some (record_in self) else none) }
+        ensures { option_map record_of result ≡ (if is_record self then Some (record_in self) else None) }
     {
-        if self.kind != KIND || self.spare != SPARE || !self.are_bounded() {
+        if self.kind != KIND || self.spare != SPARE {
             return None;
         }
-        let interval = Interval::from_code(self.interval)?;
-        let tare = self.tare()?;
-        let Ok(mark) = Mark::from_value(self.mark) else {
-            return None;
-        };
         let found = Record {
             number: self.number,
             day: self.day,
             minute: self.minute,
-            interval,
+            interval: Interval::from_code(self.interval)?,
             gross: Weight(self.gross),
-            tare,
+            tare: self.tare()?,
             unit_price: self.unit_price,
-            mark,
+            mark: Mark::from_value(self.mark).ok()?,
         };
-        if self.net == found.net().0 && u64::from(self.price) == found.price() {
+        if self.net == found.net().0
+            && u64::from(self.price) == found.price()
+            && found.is_lawful()
+        {
             Some(found)
         } else {
             None

@@ -3,6 +3,7 @@
 #![tactic(auto)]
 
 mod bits;
+mod digits;
 mod fields;
 mod line;
 mod mark;
@@ -16,5 +17,6 @@ mod words;
 pub use line::line_number;
 pub use mark::{Mark, NoMark};
 pub use record::{Record, Tare, Weight};
-pub use row::{Damage, Unlawful, Verdict, is_blank, judge};
+pub use row::{Damage, Unlawful, Verdict, judge};
+pub use rules::is_blank;
 pub use weighing::Weighing;

@@ -1,5 +1,4 @@
 ghost use Rattle.std.specs.Prelude.{◌≡◌, ◌-◌, ◌*◌};
-ghost use Rattle.std.proofs.Math.Option.{none};
 ghost use Rattle.rules.specs.Records.{lawful_tare, lawful, earlier as earlier_stamp};
 ghost use Rattle.records.specs.RecordsOf.{tare_kind_of, tare_value_of, bounded, record_of};
 
@@ -51,25 +50,8 @@ impl Tare {
     }
 }
 
-/// Whether the numbers of a record lie within their bounds.
-pub(crate) fn are_bounded(
-    number: u32,
-    minute: u16,
-    gross: Weight,
-    tare: Weight,
-    net: Weight,
-    unit_price: u32,
-) -> bool
-    ensures { result ≡ bounded number minute gross.0 tare.0 net.0 unit_price }
-{
-    if number == 0 || minute > 1439 || unit_price > 1_000_000 {
-        return false;
-    }
-    gross.0 <= 10_009 && tare.0 <= 10_000 && net.0 > 0
-}
-
 /// A weighing as it is stored. Net weight and price follow from the rest.
-#[derive(Clone, Copy)]
+#[derive(Clone, Copy, PartialEq, Eq)]
 pub struct Record {
     /// 1 and up.
     pub number: u32,
@@ -103,29 +85,27 @@ impl Record {
         )
     }
 
+    /// Whether its numbers lie within their bounds.
+    fn is_bounded(self) -> bool
+        ensures { result ≡ bounded self.number self.minute self.gross.0 (tare_value_of self.tare) (self.gross.0 - tare_value_of self.tare) self.unit_price }
+    {
+        if self.number == 0 || self.minute > 1439 || self.unit_price > 1_000_000 {
+            return false;
+        }
+        self.gross.0 <= 10_009 && self.tare.weight().0 <= 10_000 && self.net().0 > 0
+    }
+
     /// Whether it may be stored.
     pub fn is_lawful(self) -> bool
         ensures { result ≡ lawful (record_of self) }
     {
-        let bounded = are_bounded(
-            self.number,
-            self.minute,
-            self.gross,
-            self.tare.weight(),
-            self.net(),
-            self.unit_price,
-        );
-        bounded && self.tare.is_lawful()
+        self.is_bounded() && self.tare.is_lawful()
     }
 
     /// Whether its stamp, day and then minute, is earlier than that of another.
     pub fn is_earlier(self, other: Record) -> bool
         ensures { result ≡ earlier_stamp (record_of self) (record_of other) }
     {
-        if self.day == other.day {
-            self.minute < other.minute
-        } else {
-            self.day < other.day
-        }
+        (self.day, self.minute) < (other.day, other.minute)
     }
 }

@@ -1,10 +1,9 @@
 //! A record as a row of the memory, and the judge of a row.
 
-ghost use Rattle.std.specs.Prelude.{◌≡◌, ◌+◌, ◌-◌, ◌/◌, ◌%◌, ◌^◌, ◌<◌, replicate, if◌then◌else◌, ◌==◌, count_ones};
-ghost use Rattle.std.proofs.Math.Option.{none, some};
+ghost use Rattle.std.specs.Prelude.{◌≡◌, ◌+◌, ◌-◌, ◌/◌, ◌%◌, ◌^◌, ◌<◌, replicate, if◌then◌else◌, ◌==◌, count_ones, None, Some};
 ghost use Rattle.rules.specs.Lists.{same, number_of};
 ghost use Rattle.rules.specs.Records.{lawful};
-ghost use Rattle.rules.specs.Rows.{packing, is_blank, judged};
+ghost use Rattle.rules.specs.Rows.{packing, judged};
 ghost use Rattle.records.specs.RecordsOf.{record_of};
 ghost use Rattle.records.specs.Verdicts.{verdict_of, packed_says};
 
@@ -13,7 +12,7 @@ use crate::record::Record;
 use crate::words::{row_of, words_of};
 
 /// What a row turns out to be.
-#[derive(Clone, Copy)]
+#[derive(Clone, Copy, PartialEq, Eq)]
 pub enum Verdict {
     /// All ones: nothing was programmed, or nothing is left of it.
     Blank,
@@ -33,24 +32,22 @@ pub enum Damage {
 }
 
 /// The record is not lawful, so it has no row.
-#[derive(Clone, Copy)]
+#[derive(Clone, Copy, PartialEq, Eq)]
 pub struct Unlawful;
 
 /// Whether all bits are ones.
 fn are_ones(words: [u64; 4]) -> bool
     ensures { result ≡ same words (replicate 4 (2 ^ 64 - 1)) }
 {
-    words[0] == u64::MAX && words[1] == u64::MAX && words[2] == u64::MAX && words[3] == u64::MAX
+    words == [u64::MAX; 4]
 }
 
 /// How many bits before the check are zero.
 fn zero_bits(words: [u64; 4]) -> u64
     ensures { result + count_ones (number_of (2 ^ 64) 0 words / 256) ≡ 248 }
 {
-    let set = words[0].count_ones()
-        + words[1].count_ones()
-        + words[2].count_ones()
-        + (words[3] >> 8).count_ones();
+    let [a, b, c, d] = words;
+    let set = a.count_ones() + b.count_ones() + c.count_ones() + (d >> 8).count_ones();
     u64::from(248 - set)
 }
 
@@ -59,13 +56,6 @@ fn is_checked(words: [u64; 4]) -> bool
     ensures { result ≡ (number_of (2 ^ 64) 0 words % 256 == 248 - count_ones (number_of (2 ^ 64) 0 words / 256)) }
 {
     words[3] & 0xFF == zero_bits(words)
-}
-
-/// Whether a row is blank.
-pub fn is_blank(row: &[u8; 32]) -> bool
-    ensures { result ≡ is_blank row.now }
-{
-    are_ones(words_of(row))
 }
 
 /// Judges a row: first whether it is blank, then its check, then its fields.
@@ -88,7 +78,7 @@ pub fn judge(row: &[u8; 32]) -> Verdict
 impl Record {
     /// The row of the record; refused unless the record is lawful.
     pub fn pack(self) -> Result<[u8; 32], Unlawful>
-        ensures { packed_says result ≡ (if lawful (record_of self) then some (packing (record_of self)) else none) }
+        ensures { packed_says result ≡ (if lawful (record_of self) then Some (packing (record_of self)) else None) }
     {
         if !self.is_lawful() {
             return Err(Unlawful);

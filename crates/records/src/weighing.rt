@@ -5,7 +5,7 @@ ghost use Rattle.records.specs.RecordsOf.{record_of};
 use crate::record::Record;
 
 /// A weighing that may be stored: whatever number it is given, from 1 on, its record is lawful.
-#[derive(Clone, Copy)]
+#[derive(Clone, Copy, PartialEq, Eq)]
 pub struct Weighing {
     /// The record, with no number yet.
     pub(crate) entries: Record,

@@ -1,5 +1,4 @@
-ghost use Rattle.std.specs.Prelude.{◌≡◌, ◌≤◌, true, if◌then◌else◌};
-ghost use Rattle.std.proofs.Math.Option.{none, some};
+ghost use Rattle.std.specs.Prelude.{◌≡◌, ◌≤◌, true, if◌then◌else◌, None, Some};
 ghost use Rattle.rules.specs.Records.{lawful, numbered as with_number};
 ghost use Rattle.records.specs.RecordsOf.{record_of};
 ghost use Rattle.records.specs.WeighingsOf.{weighing_of, weighing_says};
@@ -8,11 +7,13 @@ use crate::record::Record;
 use crate::row::Unlawful;
 use crate::weighing::Weighing;
 
-impl Weighing {
+impl TryFrom<Record> for Weighing {
+    type Error = Unlawful;
+
+    ghost try_from_gives = { λ entries made. weighing_says made ≡ (if lawful (with_number 1 (record_of entries)) then Some (with_number 0 (record_of entries)) else None) };
+
     /// The weighing in a record, whatever its number; refused unless the record is lawful but for its number.
-    pub fn of(entries: Record) -> Result<Weighing, Unlawful>
-        ensures { weighing_says result ≡ (if lawful (with_number 1 (record_of entries)) then some (with_number 0 (record_of entries)) else none) }
-    {
+    fn try_from(entries: Record) -> Result<Weighing, Unlawful> {
         let first = Record {
             number: 1,
             ..entries
@@ -27,7 +28,9 @@ impl Weighing {
             },
         })
     }
+}
 
+impl Weighing {
     /// Its record under a number.
     pub fn numbered(self, number: u32) -> Record
         ensures value { record_of result ≡ with_number number (weighing_of self) }

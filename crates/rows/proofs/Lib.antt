@@ -1,2 +1,3 @@
 -- Lines and the rows that they write
 pub mod Pairs
+pub mod Decoded

@@ -1,9 +1,8 @@
 -- What the program writes for a line: the ticket line of the record in the row, or what is wrong with it
-use Rattle.std.specs.Prelude.{ℕ, List, [], ◌∷◌, ◌++◌, take, codes}
+use Rattle.std.specs.Prelude.{ℕ, List, [], ◌∷◌, ◌++◌, codes}
 use Rattle.rules.specs.Lists.{when_some}
 use Rattle.rules.specs.Rows.{Verdict, blank, wrong_check, wrong_fields, intact, judged}
 use Rattle.rules.specs.Tickets.{ticket}
-use Rattle.rows.specs.declared.answer.Reply.{Reply}
 use Rattle.rows.specs.Hex.{row_in}
 
 -- with a line feed
@@ -18,7 +17,3 @@ verdict_text (intact r) = ticket r
 
 abbrev pub reply_to : (line : List ℕ) → List ℕ
 reply_to line = when_some (row_in line) (ended (codes "not a row")) (λ row. verdict_text (judged row))
-
--- the bytes of a reply
-abbrev pub reply_text : Reply → List ℕ
-reply_text r = take r.len r.bytes

@@ -3,79 +3,52 @@
 
 #![tactic(auto)]
 
-ghost use Rattle.std.specs.Prelude.{◌≡◌, []};
-ghost use Rattle.rows.specs.Lines.{line_so_far, with_byte};
+ghost use Rattle.std.specs.Prelude.{◌≡◌};
+ghost use Rattle.rows.specs.Lines.{with_byte};
 
 mod answer;
-mod hex;
-mod line;
+mod parse;
 
 use answer::reply_to;
-use line::Line;
+use arrayvec::ArrayVec;
 use std::io;
-use std::io::{BufWriter, Read, Stdin, Stdout, Write};
+use std::io::{BufReader, BufWriter, Read, Stdin, Stdout, Write};
 
-impl Line {
-    /// An empty line.
-    fn new() -> Line
-        ensures { line_so_far result ≡ [] }
-    {
-        Line {
-            bytes: [0; 65],
-            len: 0,
-        }
-    }
+/// The line of input that is being read, up to its 65th byte: a line that long is no row, whatever follows.
+type Line = ArrayVec<u8, 65>;
 
-    /// One byte more.
-    #[tactic(auto, using(crate::proofs::Pairs::pushed, crate::proofs::Pairs::full))]
-    fn push(&mut self, byte: u8)
-        ensures { line_so_far self.new ≡ with_byte (line_so_far self.old) byte }
-    {
-        if self.len < 65 {
-            self.bytes[self.len] = byte;
-            self.len += 1;
-        }
-    }
+/// One byte more, if there is room for it.
+#[tactic(auto, using(crate::proofs::Pairs::pushed, crate::proofs::Pairs::full))]
+fn push(line: &mut Line, byte: u8)
+    ensures { line.new.items ≡ with_byte line.old.items byte }
+{
+    let _ = line.try_push(byte);
 }
 
 /// Answers the line, and begins the next one.
 fn end_line(line: &mut Line, out: &mut BufWriter<Stdout>) -> io::Result<()> {
-    let reply = reply_to(&line.bytes[0..line.len]);
-    line.len = 0;
-    out.write_all(&reply.bytes[0..reply.len])
-}
-
-/// Takes in a block of input.
-fn take_block(block: &[u8], line: &mut Line, out: &mut BufWriter<Stdout>) -> io::Result<()> {
-    for byte in block {
-        if *byte == b'\n' {
-            end_line(line, out)?;
-        } else {
-            line.push(*byte);
-        }
-    }
-    Ok(())
+    let reply = reply_to(line.as_slice());
+    line.clear();
+    out.write_all(reply.as_slice())
 }
 
 /// Answers every line of the input; a last line that is not ended counts as one.
-fn answer_all(input: &mut Stdin, out: &mut BufWriter<Stdout>) -> io::Result<()> {
-    let mut block = [0; 4096];
+fn answer_all(input: BufReader<Stdin>, out: &mut BufWriter<Stdout>) -> io::Result<()> {
     let mut line = Line::new();
-    for _ in 0..u64::MAX {
-        let count = input.read(&mut block)?;
-        if count == 0 {
-            break;
+    for byte in input.bytes() {
+        match byte? {
+            b'\n' => end_line(&mut line, out)?,
+            byte => push(&mut line, byte),
         }
-        take_block(&block[0..count], &mut line, out)?;
     }
-    if line.len > 0 {
+    if !line.is_empty() {
         end_line(&mut line, out)?;
     }
     out.flush()
 }
 
 fn main(rt: HostRuntime) -> io::Result<()> {
-    let mut input = rt.stdin();
+    let input = BufReader::new(rt.alloc(), rt.stdin())?;
     let mut out = BufWriter::new(rt.alloc(), rt.stdout())?;
-    answer_all(&mut input, &mut out)
+    answer_all(input, &mut out)
 }

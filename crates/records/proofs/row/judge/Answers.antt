@@ -1,5 +1,4 @@
-use Rattle.std.proofs.Common.{◌≡◌, ℕ, ◌/◌, ◌^◌, ◌<◌, true, false, cond, List, length, get_or, sym, ap, ◌∙◌}
-use mathlib.Core.Option.{Option, none, some}
+use Rattle.std.proofs.Common.{◌≡◌, ℕ, ◌/◌, ◌^◌, ◌<◌, true, false, cond, List, length, get_or, sym, ap, ◌∙◌, Option, None, Some}
 use Rattle.rules.specs.Lists.{when_some, number_of, digits_of}
 use Rattle.rules.specs.Records.{Record as TheRecord}
 use Rattle.rules.specs.Rows.{side_by_side, read_row, is_blank, blank, wrong_check, wrong_fields, intact, is_checked, judged}
@@ -28,7 +27,7 @@ judged_fields row e f = rw (e, f)
 module _ (row words : List ℕ) (size : length row ≡ 32) (fits : (i : ℕ) → get_or row i 0 < 256) (words_are : words ≡ digits_of (2 ^ 64) 4 (number_of 256 0 row)) where
   fields_say :
       (f : Fields) → side_by_side 0 (field_list f) ≡ number_of (2 ^ 64) 0 words / 256 → FitsWidths (field_list f) → (said : Option TheRecord)
-      → said ≡ cond (is_record f) (some (record_in f)) none → is_blank row ≡ false → is_checked row ≡ true → when_some said wrong_fields intact ≡ judged row
+      → said ≡ cond (is_record f) (Some (record_in f)) None → is_blank row ≡ false → is_checked row ≡ true → when_some said wrong_fields intact ≡ judged row
   fields_say f body fit said e not_blank checked =
       sym (judged_fields row not_blank checked
       ∙ ap (λ o. when_some o wrong_fields intact) (read_by_fields row size (bytes row words size fits words_are) f (body ∙ ap (λ n. n / 256) (number_is row words size fits words_are)) fit checked ∙ sym e))
@@ -49,7 +48,7 @@ pub returns-in-Some : goal.returns-in-Some
 returns-in-Some c =
     let row = c.args.row.now in
     fields_say row c.words_of-words.result c.told-row c.fits-row c.words_of-words.ensures c.read.result c.read.ensures.body c.read.ensures.fit
-    (some (record_of c.in-Some.found)) c.in-Some.ensures
+    (Some (record_of c.in-Some.found)) c.in-Some.ensures
     (looks_blank row c.words_of-words.result c.told-row c.fits-row c.words_of-words.ensures c.are_ones.result false c.are_ones.ensures c.if-are_ones.false)
     (looks_checked row c.words_of-words.result c.told-row c.fits-row c.words_of-words.ensures c.is_checked.result true c.is_checked.ensures c.if-not-is_checked.false)
 
@@ -57,6 +56,6 @@ pub returns-in-None : goal.returns-in-None
 returns-in-None c =
     let row = c.args.row.now in
     fields_say row c.words_of-words.result c.told-row c.fits-row c.words_of-words.ensures c.read.result c.read.ensures.body c.read.ensures.fit
-    none c.in-None.ensures
+    None c.in-None.ensures
     (looks_blank row c.words_of-words.result c.told-row c.fits-row c.words_of-words.ensures c.are_ones.result false c.are_ones.ensures c.if-are_ones.false)
     (looks_checked row c.words_of-words.result c.told-row c.fits-row c.words_of-words.ensures c.is_checked.result true c.is_checked.ensures c.if-not-is_checked.false)

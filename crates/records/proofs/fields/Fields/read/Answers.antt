@@ -70,8 +70,7 @@ returns c =
     let s12 : Read n p12 r12 = one_more n p11 v12 48 (bits_unread r11) (bits_unread r12) (unread r11) (unread r12) c.take-12.ensures.count s11 c.take-12.ensures.split in
     let s13 : Read n p13 r13 = one_more n p12 v13 37 (bits_unread r12) (bits_unread r13) (unread r12) (unread r13) c.take-13.ensures.count s12 c.take-13.ensures.split in
     let count : bits_unread r13 ≡ 8 = omega arith in
-    let last = c.take-13.ensures.steady in
-    let small : unread r13 < 2 ^ 8 = eight_left r13.words r13.next r13.held r13.bits last.size last.held last.bits last.next count in
+    let small : unread r13 < 2 ^ 8 = eight_left r13.words r13.next r13.held r13.bits r13.whole r13.fits r13.few r13.within count in
     record {
       body = before_check n p13 (bits_unread r13) (unread r13) count s13 small;
       fit =

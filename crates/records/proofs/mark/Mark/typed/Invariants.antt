@@ -1,6 +1,6 @@
-use Rattle.std.proofs.Common.{◌≡◌, ◌-◌, ◌++◌, map, take, replicate}
+use Rattle.std.proofs.Common.{◌≡◌, ◌++◌, map, take, drop}
 use Rattle.rules.specs.Records.{code_of}
 use Rattle.records.proofs.mark.Mark.typed.Given as goal
 
-abbrev pub invariant-loop-i : goal.invariant-loop-i
-invariant-loop-i l = l.codes ≡ map code_of (take l.i l.bytes) ++ replicate (8 - l.i) 0
+abbrev pub invariant-loop-code : goal.invariant-loop-code
+invariant-loop-code l = l.code-items ≡ map code_of (take l.code-index l.initial.code-items) ++ drop l.code-index l.initial.code-items

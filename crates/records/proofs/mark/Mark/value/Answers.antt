@@ -1,4 +1,4 @@
-use Rattle.std.proofs.Common.{◌≡◌, ◌+◌, ◌*◌, refl, ap, ◌∙◌, arith}
+use Rattle.std.proofs.Common.{◌+◌, ◌*◌, refl, ap, ◌∙◌, arith}
 use Rattle.std.proofs.lemmas.List.{take_all}
 use Rattle.rules.specs.Lists.{number_of}
 use Rattle.records.proofs.Marking.{codes_known, code_more, mark_below}
@@ -18,9 +18,8 @@ loop-code-preserved c =
     let more = code_more c.args.self.codes c.loop-code.code-index c.loop-code.value c.args.self.known c.loop-code-test.true c.loop-code.invariant in
     c.beside-value.ensures ∙ ap (λ d. c.loop-code.value * 64 + d) c.from.ensures ∙ more.0
 
-pub returns : goal.returns
-returns c =
+pub returns-clause-bits : goal.returns-clause-bits
+returns-clause-bits c =
     let codes = c.args.self.codes in
     let size = (codes_known codes c.args.self.known).0 in
-    let value : c.loop-code.value ≡ number_of 64 0 codes = c.loop-code.invariant ∙ ap (number_of 64 0) (take_all c.loop-code.code-index codes (omega (arith, size))) in
-    record { value = value; bits = rw value (mark_below codes c.args.self.known) }
+    rw (c.loop-code.invariant ∙ ap (number_of 64 0) (take_all c.loop-code.code-index codes (omega (arith, size)))) (mark_below codes c.args.self.known)

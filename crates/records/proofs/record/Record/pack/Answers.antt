@@ -1,5 +1,4 @@
-use Rattle.std.proofs.Common.{◌≡◌, ◌*◌, ◌^◌, ◌<◌, true, cond, [], ◌∷◌, length, get_or, sym, ap, ◌∙◌, subst, arith, rules}
-use mathlib.Core.Option.{none, some}
+use Rattle.std.proofs.Common.{◌≡◌, ◌*◌, ◌^◌, ◌<◌, true, cond, [], ◌∷◌, length, get_or, sym, ap, ◌∙◌, subst, arith, rules, None, Some}
 use Rattle.rules.specs.Lists.{number_of}
 use Rattle.rules.specs.Records.{lawful}
 use Rattle.rules.specs.Rows.{fields, side_by_side, packing}
@@ -31,4 +30,4 @@ returns c =
     ap (number_of (2 ^ 64) 0) (sym (spread ws size)) ∙ c.words.ensures ∙ ap (λ fs. side_by_side 0 fs * 256) c.of.ensures in
     let row : c.row_of.result ≡ packing r =
     c.row_of.ensures ∙ packed_row r ok (get_or ws 0 0) (get_or ws 1 0) (get_or ws 2 0) (get_or ws 3 0) c.zero_bits-check.result body c.zero_bits-check.ensures in
-    ap some row ∙ sym (ap (λ b. cond b (some (packing r)) none) ok)
+    ap Some row ∙ sym (ap (λ b. cond b (Some (packing r)) None) ok)
