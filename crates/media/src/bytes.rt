@@ -1,6 +1,6 @@
-ghost use Rattle.std.specs.Prelude.{◌≡◌, length, if◌then◌else◌};
-ghost use Rattle.rules.specs.Media.{accepted, refused, is_medium_size, rows_in, reads, one_more};
-ghost use Rattle.rules.specs.Rows.{is_blank as blank_by_rule};
+ghost use Rattle.std.specs.Prelude.{◌≡◌, length, replicate, if◌then◌else◌};
+ghost use Rattle.rules.specs.Rows.{blank_row};
+ghost use Rattle.rules.specs.Media.{accepted, refused, is_medium_size, rows_in, reads};
 ghost use Rattle.media.specs.Outcomes.{outcome};
 
 use crate::medium::MediumFault;
@@ -29,21 +29,21 @@ pub(crate) fn read_row(bytes: &[u8], row: usize, out: &mut [u8; 32]) -> Result<(
     Ok(())
 }
 
-/// Whether all bits of a row are ones.
-pub(crate) fn is_blank(row: &[u8; 32]) -> bool
-    ensures { result ≡ blank_by_rule row.now }
+/// Clears the bits of a blank row that are zero in these bytes.
+pub(crate) fn clear_bits(row: &mut [u8], bytes: &[u8; 32])
+    requires { row.old ≡ blank_row }
+    ensures { row.new ≡ bytes.now }
 {
-    for byte in row {
-        if *byte != 0xFF {
-            return false;
-        }
+    // by index: of what `iter_mut().zip(..)` leaves, no clause says anything yet
+    for (i, byte) in bytes.iter().enumerate() {
+        row[i] &= *byte;
     }
-    true
 }
 
-/// The count after one more write, modulo 2^32.
-pub(crate) fn count_write(writes: u32) -> u32
-    ensures { result ≡ one_more writes }
+/// Sets all bits of a page.
+pub(crate) fn set_bits(page: &mut [u8])
+    requires { length page.old ≡ 512 }
+    ensures { page.new ≡ replicate 512 255 }
 {
-    writes.wrapping_add(1)
+    page.fill(0xFF);
 }

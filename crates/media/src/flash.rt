@@ -1,88 +1,80 @@
-ghost use Rattle.std.specs.Prelude.{◌≡◌, ◌%◌, ◌^◌, ◌<◌, ◌≤◌, true, length};
-ghost use Rattle.rules.specs.Media.{is_medium_size, rows_in};
+ghost use Rattle.std.specs.Prelude.{◌≡◌};
+ghost use Rattle.rules.specs.Media.{rows_in};
 ghost use Rattle.rules.proofs.MediaLaws.{shaped};
 
-use crate::bytes::{count_write, is_blank, read_row};
+use crate::bytes::{clear_bits, set_bits};
+use crate::cells::Cells;
 use crate::medium::{Medium, MediumFault};
 
 /// Flash: a program clears bits, and only the erase of a page sets them again.
 #[derive(Drop)]
 pub struct Flash<'a> {
-    cells: &'a mut [u8],
-    writes: u32,
-    ghost whole: { length cells.now % 512 ≡ 0 },
-    ghost least: { 1024 ≤ length cells.now },
-    ghost most: { length cells.now ≤ 32768 },
-    ghost fits: { writes < 2 ^ 32 },
+    cells: Cells<'a>,
 }
 
 impl<'a> Flash<'a> {
+    ghost use Rattle.media.specs.Cells.{bytes_of, lender_of, flash_cells};
+
     /// A medium over bytes that passed their check; they stay as they are.
-    pub fn over(cells: &'a mut [u8]) -> Flash<'a>
-        requires { is_medium_size (length cells.old) ≡ true }
-        ensures bytes { result.cells.now ≡ cells.old }
-        ensures lent { result.cells.ghost_name ≡ cells.entry.ghost_name }
-        ensures count { result.writes ≡ 0 }
+    pub fn over(mut cells: Cells<'a>) -> Flash<'a>
+        ensures bytes { bytes_of (flash_cells result) ≡ bytes_of cells.entry }
+        ensures rows { ⟦<Flash<'a> as Medium>⟧.rows result ≡ rows_in (bytes_of cells.entry) }
+        ensures lender { ⟦<Flash<'a> as Medium>⟧.lender result ≡ lender_of cells.entry }
+        ensures count { ⟦<Flash<'a> as Medium>⟧.count result ≡ 0 }
     {
-        Flash { cells, writes: 0 }
+        cells.writes = 0;
+        Flash { cells }
     }
 
     /// Gives the bytes back, as they are now.
     pub fn into_bytes(self) -> &'a mut [u8]
-        ensures bytes { result.now ≡ self.entry.cells.now }
-        ensures lent { result.ghost_name ≡ self.entry.cells.ghost_name }
+        ensures bytes { result.now ≡ bytes_of (flash_cells self.entry) }
+        ensures rows { rows_in result.now ≡ ⟦<Flash<'a> as Medium>⟧.rows self.entry }
+        ensures lender { result.ghost_name ≡ ⟦<Flash<'a> as Medium>⟧.lender self.entry }
     {
-        let Flash { cells, writes: _ } = self;
-        cells
+        let Flash { cells } = self;
+        cells.into_bytes()
     }
 }
 
 impl<'a> Medium for Flash<'a> {
-    ghost rows = { λ m. rows_in m.cells.now };
+    ghost rows = { λ m. rows_in m.cells.bytes.now };
 
-    ghost count = { λ m. m.writes };
+    ghost count = { λ m. m.cells.writes };
 
-    ghost lender = { λ m. m.cells.ghost_name };
+    ghost lender = { λ m. m.cells.bytes.ghost_name };
 
-    ghost fits = { λ m. m.fits };
+    ghost fits = { λ m. m.cells.fits };
 
-    ghost shape = { λ m. shaped m.cells.now m.whole m.least m.most };
+    ghost shape = { λ m. shaped m.cells.bytes.now m.cells.whole m.cells.least m.cells.most };
 
     fn size(&self) -> usize {
-        self.cells.len() / 512
+        self.cells.size()
     }
 
     fn writes(&self) -> u32 {
-        self.writes
+        self.cells.writes
     }
 
     fn read(&self, row: usize, out: &mut [u8; 32]) -> Result<(), MediumFault> {
-        read_row(&*self.cells, row, out)
+        self.cells.read(row, out)
     }
 
+    #[tactic(auto, using(crate::proofs::Ends::program_ends))]
     fn program(&mut self, row: usize, bytes: &[u8; 32]) -> Result<(), MediumFault> {
-        let mut was = [0; 32];
-        self.read(row, &mut was)?;
-        if !is_blank(&was) {
-            return Err(MediumFault::NotBlank(row));
-        }
-        let start = row * 32;
-        for i in 0..32 {
-            self.cells[start + i] &= bytes[i];
-        }
-        self.writes = count_write(self.writes);
+        let cells = &mut self.cells;
+        let start = cells.find_blank(row)?;
+        clear_bits(&mut cells.bytes[start..start + 32], bytes);
+        cells.count_write();
         Ok(())
     }
 
+    #[tactic(auto, using(crate::proofs::Ends::erase_ends))]
     fn erase(&mut self, page: usize) -> Result<(), MediumFault> {
-        if page >= self.cells.len() / 512 {
-            return Err(MediumFault::Outside(page));
-        }
-        let start = page * 512;
-        for i in 0..512 {
-            self.cells[start + i] = 0xFF;
-        }
-        self.writes = count_write(self.writes);
+        let cells = &mut self.cells;
+        let start = cells.find_page(page)?;
+        set_bits(&mut cells.bytes[start..start + 512]);
+        cells.count_write();
         Ok(())
     }
 }

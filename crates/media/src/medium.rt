@@ -1,11 +1,10 @@
 ghost use Rattle.std.specs.Prelude.{◌≡◌, ℕ, ◌*◌, ◌^◌, ◌<◌, length};
 ghost use Rattle.std.specs.Borrow.{GName};
-ghost use Rattle.rules.specs.Faults.{layer_of};
 ghost use Rattle.rules.specs.Memory.{Rows};
 ghost use Rattle.rules.specs.Media.{Shaped, reads, programs, erases};
 ghost use Rattle.media.specs.Outcomes.{fault_number, fault_place, outcome};
 
-use rules::Layer;
+use rules::Fault;
 
 /// Why a medium refuses.
 #[derive(Clone, Copy, PartialEq, Eq)]
@@ -18,11 +17,12 @@ pub enum MediumFault {
     NotBlank(usize),
 }
 
-impl MediumFault {
-    /// The number of the fault.
-    pub fn number(self) -> u8
-        ensures { result ≡ fault_number self }
-    {
+impl Fault for MediumFault {
+    ghost number_of = { fault_number };
+
+    ghost place_of = { fault_place };
+
+    fn number(self) -> u8 {
         match self {
             MediumFault::Size => 1,
             MediumFault::Outside(_) => 2,
@@ -31,20 +31,11 @@ impl MediumFault {
     }
 
     /// The row or page that was asked for, or 0.
-    pub fn place(self) -> usize
-        ensures { result ≡ fault_place self }
-    {
+    fn place(self) -> usize {
         match self {
             MediumFault::Size => 0,
             MediumFault::Outside(place) | MediumFault::NotBlank(place) => place,
         }
-    }
-
-    /// The layer that the fault belongs to.
-    pub fn layer(self) -> Layer
-        ensures { result ≡ layer_of (fault_number self) }
-    {
-        Layer::of(self.number())
     }
 }
 

@@ -1,114 +1,116 @@
-ghost use Rattle.std.specs.Prelude.{◌≡◌, ◌*◌, ◌/◌, ◌%◌, ◌^◌, ◌<◌, ◌≤◌, true, length, take, drop};
-ghost use Rattle.std.proofs.Math.Seq.{paste};
-ghost use Rattle.rules.specs.Media.{is_medium_size, rows_in, one_more};
+ghost use Rattle.std.specs.Prelude.{◌≡◌, ◌+◌, ◌%◌, ◌≤◌, length, take, drop};
+ghost use borrow.Rule.Slice.PartMut.{put_mid};
+ghost use Rattle.rules.specs.Media.{rows_in, one_more};
 ghost use Rattle.rules.proofs.MediaLaws.{shaped};
 
-use crate::bytes::{count_write, is_blank, read_row};
+use crate::cells::Cells;
 use crate::medium::{Medium, MediumFault};
 
 /// An erased sector, which is one page.
 const ERASED: [u8; 512] = [0xFF; 512];
 
 /// Rewritable sectors: every write rewrites one page whole.
+// What both kinds do alike is in `Cells`; two implementations of the one interface are a rule of the project.
 #[derive(Drop)]
 pub struct Sectors<'a> {
-    cells: &'a mut [u8],
-    writes: u32,
-    ghost whole: { length cells.now % 512 ≡ 0 },
-    ghost least: { 1024 ≤ length cells.now },
-    ghost most: { length cells.now ≤ 32768 },
-    ghost fits: { writes < 2 ^ 32 },
+    cells: Cells<'a>,
 }
 
 impl<'a> Sectors<'a> {
+    ghost use Rattle.media.specs.Cells.{bytes_of, lender_of, sectors_cells};
+
     /// A medium over bytes that passed their check; they stay as they are.
-    pub fn over(cells: &'a mut [u8]) -> Sectors<'a>
-        requires { is_medium_size (length cells.old) ≡ true }
-        ensures bytes { result.cells.now ≡ cells.old }
-        ensures lent { result.cells.ghost_name ≡ cells.entry.ghost_name }
-        ensures count { result.writes ≡ 0 }
+    pub fn over(mut cells: Cells<'a>) -> Sectors<'a>
+        ensures bytes { bytes_of (sectors_cells result) ≡ bytes_of cells.entry }
+        ensures rows { ⟦<Sectors<'a> as Medium>⟧.rows result ≡ rows_in (bytes_of cells.entry) }
+        ensures lender { ⟦<Sectors<'a> as Medium>⟧.lender result ≡ lender_of cells.entry }
+        ensures count { ⟦<Sectors<'a> as Medium>⟧.count result ≡ 0 }
     {
-        Sectors { cells, writes: 0 }
+        cells.writes = 0;
+        Sectors { cells }
     }
 
     /// Gives the bytes back, as they are now.
     pub fn into_bytes(self) -> &'a mut [u8]
-        ensures bytes { result.now ≡ self.entry.cells.now }
-        ensures lent { result.ghost_name ≡ self.entry.cells.ghost_name }
+        ensures bytes { result.now ≡ bytes_of (sectors_cells self.entry) }
+        ensures rows { rows_in result.now ≡ ⟦<Sectors<'a> as Medium>⟧.rows self.entry }
+        ensures lender { result.ghost_name ≡ ⟦<Sectors<'a> as Medium>⟧.lender self.entry }
     {
-        let Sectors { cells, writes: _ } = self;
-        cells
+        let Sectors { cells } = self;
+        cells.into_bytes()
     }
 }
 
-impl Sectors<'_> {
-    /// The bytes of one page.
-    fn page(&self, page: usize) -> [u8; 512]
-        requires { page < length self.now.cells.now / 512 }
-        ensures { result ≡ take 512 (drop (page * 512) self.now.cells.now) }
-    {
-        let start = page * 512;
-        let mut sector = ERASED;
-        sector.copy_from_slice(&self.cells[start..start + 512]);
-        sector
-    }
+/// The bytes of the page that starts here.
+fn page_at(cells: &Cells<'_>, start: usize) -> [u8; 512]
+    requires { start + 512 ≤ length cells.now.bytes.now }
+    ensures { result ≡ take 512 (drop start cells.now.bytes.now) }
+{
+    let mut sector = ERASED;
+    sector.copy_from_slice(&cells.bytes[start..start + 512]);
+    sector
+}
 
-    /// Rewrites one page whole, which is one write.
-    fn rewrite(&mut self, page: usize, sector: &[u8; 512])
-        requires { page < length self.old.cells.now / 512 }
-        ensures cells { self.new.cells.now ≡ paste self.old.cells.now (page * 512) sector.now 512 }
-        ensures writes { self.new.writes ≡ one_more self.old.writes }
-        ensures lent { self.new.cells.ghost_name ≡ self.old.cells.ghost_name }
-    {
-        let start = page * 512;
-        for i in 0..512 {
-            self.cells[start + i] = sector[i];
-        }
-        self.writes = count_write(self.writes);
-    }
+/// Rewrites the page that starts here whole, which is one write.
+fn rewrite(cells: &mut Cells<'_>, start: usize, sector: &[u8; 512])
+    requires { start + 512 ≤ length cells.old.bytes.now }
+    ensures bytes { cells.new.bytes.now ≡ put_mid start 512 cells.old.bytes.now sector.now }
+    ensures writes { cells.new.writes ≡ one_more cells.old.writes }
+    ensures lender { cells.new.bytes.ghost_name ≡ cells.old.bytes.ghost_name }
+{
+    cells.bytes[start..start + 512].copy_from_slice(sector);
+    cells.count_write();
+}
+
+/// Rewrites the page of the row that starts here with these bytes in it.
+fn write_row(cells: &mut Cells<'_>, start: usize, bytes: &[u8; 32])
+    requires inside { start + 32 ≤ length cells.old.bytes.now }
+    requires row { start % 32 ≡ 0 }
+    ensures bytes { cells.new.bytes.now ≡ put_mid start 32 cells.old.bytes.now bytes.now }
+    ensures writes { cells.new.writes ≡ one_more cells.old.writes }
+    ensures lender { cells.new.bytes.ghost_name ≡ cells.old.bytes.ghost_name }
+{
+    let page = start / 512 * 512;
+    let at = start % 512;
+    let mut sector = page_at(&*cells, page);
+    sector[at..at + 32].copy_from_slice(bytes);
+    rewrite(cells, page, &sector);
 }
 
 impl<'a> Medium for Sectors<'a> {
-    ghost rows = { λ m. rows_in m.cells.now };
+    ghost rows = { λ m. rows_in m.cells.bytes.now };
 
-    ghost count = { λ m. m.writes };
+    ghost count = { λ m. m.cells.writes };
 
-    ghost lender = { λ m. m.cells.ghost_name };
+    ghost lender = { λ m. m.cells.bytes.ghost_name };
 
-    ghost fits = { λ m. m.fits };
+    ghost fits = { λ m. m.cells.fits };
 
-    ghost shape = { λ m. shaped m.cells.now m.whole m.least m.most };
+    ghost shape = { λ m. shaped m.cells.bytes.now m.cells.whole m.cells.least m.cells.most };
 
     fn size(&self) -> usize {
-        self.cells.len() / 512
+        self.cells.size()
     }
 
     fn writes(&self) -> u32 {
-        self.writes
+        self.cells.writes
     }
 
     fn read(&self, row: usize, out: &mut [u8; 32]) -> Result<(), MediumFault> {
-        read_row(&*self.cells, row, out)
+        self.cells.read(row, out)
     }
 
+    #[tactic(auto, using(crate::proofs::Ends::program_ends))]
     fn program(&mut self, row: usize, bytes: &[u8; 32]) -> Result<(), MediumFault> {
-        let mut was = [0; 32];
-        self.read(row, &mut was)?;
-        if !is_blank(&was) {
-            return Err(MediumFault::NotBlank(row));
-        }
-        let mut sector = self.page(row / 16);
-        let at = row % 16 * 32;
-        sector[at..at + 32].copy_from_slice(bytes);
-        self.rewrite(row / 16, &sector);
+        let cells = &mut self.cells;
+        let start = cells.find_blank(row)?;
+        write_row(cells, start, bytes);
         Ok(())
     }
 
     fn erase(&mut self, page: usize) -> Result<(), MediumFault> {
-        if page >= self.cells.len() / 512 {
-            return Err(MediumFault::Outside(page));
-        }
-        self.rewrite(page, &ERASED);
+        let start = self.cells.find_page(page)?;
+        rewrite(&mut self.cells, start, &ERASED);
         Ok(())
     }
 }

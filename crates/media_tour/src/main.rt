@@ -2,8 +2,9 @@
 
 #![tactic(auto)]
 
-use media::{Flash, Medium, MediumFault, Sectors, check_bytes};
-use std::io;
+use media::{Cells, Flash, Medium, MediumFault, Sectors, check_bytes};
+use rules::Fault;
+use std::{fmt, io};
 
 /// One call of a medium.
 #[derive(Clone, Copy)]
@@ -11,6 +12,16 @@ enum Step {
     Read(usize),
     Program(usize, u8),
     Erase(usize),
+}
+
+impl fmt::Display for Step {
+    fn fmt<W: fmt::Write>(&self, f: &mut fmt::Formatter<W>) -> fmt::Result {
+        match *self {
+            Step::Read(row) => write!(f, "read row {row}"),
+            Step::Program(row, byte) => write!(f, "program row {row} with {byte:02X}"),
+            Step::Erase(page) => write!(f, "erase page {page}"),
+        }
+    }
 }
 
 /// What is done to both media.
@@ -35,27 +46,6 @@ const STEPS: [Step; 18] = [
     Step::Program(3, 0x77),
 ];
 
-/// Writes a step.
-fn tell_step(rt: &HostRuntime, kind: &str, step: Step) -> io::Result<()> {
-    match step {
-        Step::Read(row) => print!(rt; "{kind}: read row {row}: "),
-        Step::Program(row, byte) => print!(rt; "{kind}: program row {row} with {byte:02X}: "),
-        Step::Erase(page) => print!(rt; "{kind}: erase page {page}: "),
-    }
-}
-
-/// Writes the answer to it.
-fn tell(rt: &HostRuntime, answer: Result<u8, MediumFault>) -> io::Result<()> {
-    match answer {
-        Ok(first) => println!(rt; "{first:02X}"),
-        Err(fault) => {
-            let number = fault.number();
-            let place = fault.place();
-            println!(rt; "refused {number} at {place}")
-        }
-    }
-}
-
 /// Does one step, and gives what the first byte of that row then is, or of the page's first row.
 fn act<M: Medium>(medium: &mut M, step: Step) -> Result<u8, MediumFault> {
     let mut row = [0; 32];
@@ -76,12 +66,20 @@ fn act<M: Medium>(medium: &mut M, step: Step) -> Result<u8, MediumFault> {
 /// Does every step, and writes the answers, the size and the count of writes.
 fn tour<M: Medium>(rt: &HostRuntime, kind: &str, medium: &mut M) -> io::Result<()> {
     for step in STEPS {
-        tell_step(rt, kind, step)?;
-        tell(rt, act(medium, step))?;
+        match act(medium, step) {
+            Ok(first) => println!(rt; "{kind}: {step}: {first:02X}")?,
+            Err(fault) => println!(rt;
+                "{kind}: {step}: refused {} at {}",
+                fault.number(),
+                fault.place()
+            )?,
+        }
     }
-    let pages = medium.size();
-    let writes = medium.writes();
-    println!(rt; "{kind}: {pages} pages, {writes} writes")
+    println!(rt;
+        "{kind}: {} pages, {} writes",
+        medium.size(),
+        medium.writes()
+    )
 }
 
 /// Bytes of any content, with two rows that are not blank.
@@ -98,15 +96,14 @@ fn main(rt: HostRuntime) -> io::Result<()> {
     for size in [0, 512, 1000, 1024] {
         match check_bytes(&one[0..size]) {
             Ok(()) => println!(rt; "{size} bytes pass")?,
-            Err(_) => println!(rt; "{size} bytes are refused 1")?,
+            Err(fault) => println!(rt; "{size} bytes are refused {}", fault.number())?,
         }
     }
-    let mut flash = Flash::over(&mut one);
+    let mut flash = Flash::over(Cells::check(&mut one).unwrap());
     tour(&rt, "flash", &mut flash)?;
     drop(flash);
-    let mut sectors = Sectors::over(&mut other);
+    let mut sectors = Sectors::over(Cells::check(&mut other).unwrap());
     tour(&rt, "sectors", &mut sectors)?;
     drop(sectors);
-    let equal = one == other;
-    println!(rt; "the bytes are equal: {equal}")
+    println!(rt; "the bytes are equal: {}", one == other)
 }

@@ -1,0 +1,2 @@
+-- What the media's functions cite
+pub mod Ends

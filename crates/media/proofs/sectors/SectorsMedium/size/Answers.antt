@@ -1,5 +1,0 @@
-use Rattle.rules.proofs.MediaLaws.{pages_are}
-use Rattle.media.proofs.sectors.SectorsMedium.size.Goals as goal
-
-pub returns : goal.returns
-returns c = pages_are c.args.self.now.cells.now c.args.self.now.whole
