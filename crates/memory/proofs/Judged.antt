@@ -1,16 +1,17 @@
 -- What a read row holds
-use Rattle.std.proofs.Common.{◌≡◌, ℕ, Bool, true, false, cond, ltb, List, [], length, sym, refl, ap, ◌∙◌, arith}
-use mathlib.Core.Option.{Option, none, some}
+use Rattle.std.proofs.Common.{◌≡◌, ℕ, Bool, true, false, cond, ltb, List, [], length, MatchOption, sym, refl, ap, ◌∙◌, arith, Option, None, Some}
 use Rattle.std.proofs.lemmas.List.{get_or_past}
 use Rattle.std.proofs.lemmas.Bool.{ltb-false}
 use Rattle.rules.specs.Lists.{when_some}
 use Rattle.rules.specs.Records.{Record}
-use Rattle.rules.specs.Rows.{read_row, is_blank, is_checked, Verdict, blank, wrong_check, wrong_fields, intact, judged}
+use Rattle.rules.specs.Rows.{read_row, blank_row, is_blank, is_checked, Verdict, blank, wrong_check, wrong_fields, intact, judged}
 use Rattle.rules.specs.Memory.{Rows, row_at}
-use Rattle.rules.specs.Media.{Outcome, accepted, refused, reads}
+use Rattle.rules.specs.Media.{accepted, refused}
+use Rattle.memory.specs.Entries.{row_in, entry_in}
 use Rattle.records.specs.Verdicts.{verdict_of}
-use Rattle.records.specs.declared.row.Verdict.TheVariants.{Damaged}
-use Rattle.records.specs.declared.row.Damage.{Damage}
+use Rattle.records.specs.declared.record.Record.{Record as CodeRecord}
+use Rattle.records.specs.declared.row.Verdict.{Verdict as CodeVerdict}
+use Rattle.records.specs.declared.row.Verdict.TheVariants.{Blank, Damaged, Intact}
 use Rattle.records.specs.declared.row.Damage.TheVariants.{Check, Fields}
 use Rattle.rules.proofs.BlankRows.{is_blank_row}
 use Rattle.rules.proofs.RowLaws.{read_is_packed, blank_reads_none, nothing_reads_none}
@@ -18,19 +19,19 @@ use Rattle.rules.proofs.Judging.{packing_checked}
 
 -- the record that the judge found
 abbrev pub found_in : Verdict → Option Record
-found_in blank = none
-found_in wrong_check = none
-found_in wrong_fields = none
-found_in (intact r) = some r
+found_in blank = None
+found_in wrong_check = None
+found_in wrong_fields = None
+found_in (intact r) = Some r
 
 by_looks : (looks_blank looks_checked : Bool) (fields_hold : Option Record)
-    → (looks_blank ≡ true → fields_hold ≡ none) → ((r : Record) → fields_hold ≡ some r → looks_checked ≡ true)
+    → (looks_blank ≡ true → fields_hold ≡ None) → ((r : Record) → fields_hold ≡ Some r → looks_checked ≡ true)
     → found_in (cond looks_blank blank (cond looks_checked (when_some fields_hold wrong_fields intact) wrong_check)) ≡ fields_hold
 by_looks true k f one two = sym (one refl)
-by_looks false true none one two = refl
-by_looks false true (some r) one two = refl
-by_looks false false none one two = refl
-by_looks false false (some r) one two = cc (two r refl)
+by_looks false true None one two = refl
+by_looks false true (Some r) one two = refl
+by_looks false false None one two = refl
+by_looks false false (Some r) one two = cc (two r refl)
 
 pub judged_tells : (row : List ℕ) → found_in (judged row) ≡ read_row row
 unfolding judged
@@ -42,15 +43,33 @@ judged_tells row =
 pub not_both : (number place : ℕ) → accepted ≡ refused number place → ⊥
 not_both number place z = let y : ◌≡◌ {A = ℕ} 0 1 = cc in omega arith
 
--- a read that was refused asked for a row past the end, which holds no record
-pub refused_holds_none : (rows : Rows) (row number place : ℕ) (out got : List ℕ) → reads rows row out ≡ (refused number place, got) → read_row (row_at rows row) ≡ none
-refused_holds_none rows row number place out got e = at (ltb row (length rows)) refl e
-  where
-    at : (b : Bool) → ltb row (length rows) ≡ b → ◌≡◌ {A = Outcome × List ℕ} (cond b (accepted, row_at rows row) (refused 2 row, out)) (refused number place, got)
-        → read_row (row_at rows row) ≡ none
-    at true is e = absurd (not_both number place (ap (λ x. x.0) e))
-    at false is e = ap read_row (get_or_past rows row [] (ltb-false row (length rows) is)) ∙ nothing_reads_none
+-- a row that a memory does not have holds no record, and is not blank
+module _ (rows : Rows) (i : ℕ) where
+  past : {A : Type 0} (f : List ℕ → A) → None ≡ row_in rows i → f (row_at rows i) ≡ f []
+  past f e = at (ltb i (length rows)) refl e
+    where
+      at : (b : Bool) → ltb i (length rows) ≡ b → None ≡ cond b (Some (row_at rows i)) None → f (row_at rows i) ≡ f []
+      at true is e = cc
+      at false is e = ap f (get_or_past rows i [] (ltb-false i (length rows) is))
 
-pub damage_holds_none : (d : Damage) → found_in (verdict_of (Damaged d)) ≡ none
-damage_holds_none Check = refl
-damage_holds_none Fields = refl
+  pub no_row_no_entry : None ≡ row_in rows i → None ≡ entry_in rows i
+  no_row_no_entry e = sym (ap (λ o. when_some o None (λ r. Some (i, r))) (past read_row e ∙ nothing_reads_none))
+
+  row_there : (row : List ℕ) → Some row ≡ row_in rows i → row ≡ row_at rows i
+  row_there row e = at (ltb i (length rows)) e
+    where
+      at : (b : Bool) → Some row ≡ cond b (Some (row_at rows i)) None → row ≡ row_at rows i
+      at true e = cc
+      at false e = cc
+
+  pub blank_told : (o : Option (List ℕ)) (b : Bool) → o ≡ row_in rows i → MatchOption o (b ≡ false) (λ row. b ≡ is_blank row) → b ≡ is_blank (row_at rows i)
+  unfolding is_blank blank_row
+  blank_told None b e h = h ∙ sym (past is_blank e)
+  blank_told (Some row) b e h = h ∙ ap is_blank (row_there row e)
+
+-- only an intact row holds a record
+pub not_intact : (v : CodeVerdict) → ((r : CodeRecord) → v ≡ Intact r → ⊥) → None ≡ found_in (verdict_of v)
+not_intact Blank other = refl
+not_intact (Damaged Check) other = refl
+not_intact (Damaged Fields) other = refl
+not_intact (Intact r) other = absurd (other r refl)

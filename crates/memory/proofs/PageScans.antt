@@ -1,40 +1,82 @@
 -- The rows of a page, one by one
-use Rattle.std.proofs.Common.{◌≡◌, ℕ, zero, suc, ◌+◌, ◌-◌, ◌*◌, ◌<◌, ◌≤◌, true, false, cond, not, ◌&&◌, ◌||◌, eqb, ltb, List, [], ◌∷◌, ◌++◌, length, sym, refl, ap, ◌∙◌, ap₂, arith}
-use mathlib.Core.Option.{Option, none, some}
+use Rattle.std.proofs.Common.{◌≡◌, ℕ, zero, suc, ◌+◌, ◌-◌, ◌*◌, Bool, true, false, cond, not, ◌&&◌, ◌||◌, eqb, ltb, List, [], ◌∷◌, ◌++◌, length, MatchOption, sym, refl, ap, ◌∙◌, ap₂, subst, arith, Option, None, Some}
 use Rattle.std.proofs.lemmas.Bool.{ne_eqb}
+use Rattle.std.specs.Bool.{then_some}
+use Rattle.std.specs.List.{list_all, list_any, find, range_with_len}
+use Rattle.std.specs.declared.ops.Range.{Range}
+use Rattle.std.proofs.iter.Yields.{nat_range_steps}
+use Rattle.std.proofs.iter.runs.Sources.{nat_range_steps_back}
+use Rattle.std.proofs.lemmas.Iterator.{YieldsList, YieldsList-from_range}
+use Rattle.std.proofs.lemmas.Iterator.Consumers.{YieldsList-from_shown}
 use Rattle.rules.specs.Lists.{from, when_some}
 use Rattle.rules.specs.Records.{Record}
 use Rattle.rules.specs.Rows.{read_row, is_blank}
 use Rattle.rules.specs.Memory.{Rows, row_at, rows_of, intact_in, after_nonblank, free_in, holds_record, dated_from, all_blank}
-use Rattle.memory.specs.Entries.{entry_in}
+use Rattle.memory.specs.Entries.{entry_in, is_there}
 use Rattle.rules.proofs.Counting.{from_append, from_among}
 use Rattle.rules.proofs.Seen.{seen_none_in}
 use Rattle.rules.proofs.Memories.{sight, intact_seen}
 use Rattle.rules.proofs.Places.{blank_sight, free_is as first_free}
-use Rattle.memory.specs.Rounds.{if_in_page, any_record}
+use Rattle.memory.specs.Rounds.{any_record, free_in_empty}
 use Rattle.memory.specs.Releases.{is_dated}
-use Rattle.memory.proofs.Scans.{from_next, from_more, from_none, intact_next}
+use Rattle.memory.proofs.Scans.{intact_next}
 
-module _ (rows : Rows) (page : ℕ) where
-  -- the rows of the page from its i-th on
-  abbrev pub page_left : ℕ → List ℕ
-  page_left i = from (page * 16 + i) (16 - i)
+-- ---- The numbers of a range, from the front and from the back
 
-  pub page_begin : rows_of page ≡ page_left 0
-  page_begin = let same : 16 * page ≡ page * 16 + 0 = omega arith in ap (λ a. from a 16) same
+ranged : (a n : ℕ) → range_with_len a n ≡ from a n
+ranged a zero = refl
+ranged a (suc n) = let next : a + 1 ≡ suc a = omega arith in ap (λ l. a ∷ l) (ap (λ k. range_with_len k n) next ∙ ranged (suc a) n)
 
-  pub page_more : (i : ℕ) → i < 16 → page_left i ≡ (page * 16 + i) ∷ page_left (i + 1)
-  page_more i inside =
-      let next : page * 16 + i + 1 ≡ page * 16 + (i + 1) = omega arith in
-      from_next (page * 16 + i) (16 - i) (16 - (i + 1)) (omega arith) ∙ ap (λ a. (page * 16 + i) ∷ from a (16 - (i + 1))) next
+pub counts_up : (s : Range ℕ) (a n : ℕ) → s.start ≡ a → s.end - s.start ≡ n → YieldsList nat_range_steps (λ x. x) s (from a n)
+counts_up s a n begins long =
+    let P : List ℕ → Type 0 = λ l. YieldsList nat_range_steps (λ x. x) s l in
+    subst P (ranged s.start n ∙ ap (λ k. from k n) begins) (YieldsList-from_range s.start s.end n refl long)
 
-  pub page_none : (i : ℕ) → 16 ≤ i → page_left i ≡ []
-  page_none i past = let none_left : 16 - i ≡ 0 = omega arith in ap (from (page * 16 + i)) none_left
+-- n numbers that count down to a
+abbrev pub down : (a n : ℕ) → List ℕ
+down a zero = []
+down a (suc n) = (a + n) ∷ down a n
+
+pub counts_down : (s : Range ℕ) → YieldsList nat_range_steps_back (λ x. x) s (down s.start (s.end - s.start))
+counts_down s = YieldsList-from_shown nat_range_steps_back (λ x. x) (λ s. down s.start (s.end - s.start)) stops goes s
+  where
+    stops : (s t : Range ℕ) → nat_range_steps_back s None t → length (down s.start (s.end - s.start)) ≡ 0
+    stops s t h = ap (λ n. length (down s.start n)) h.1.0
+
+    goes : (s : Range ℕ) (x : ℕ) (t : Range ℕ) → nat_range_steps_back s (Some x) t → down s.start (s.end - s.start) ≡ x ∷ down t.start (t.end - t.start)
+    goes s x t h =
+        let one_more : s.end - s.start ≡ suc (t.end - s.start) = omega (arith, h.1.0, h.1.2) in
+        let here : s.start + (t.end - s.start) ≡ x = omega (arith, h.1.0, h.1.1, h.1.2) in
+        ap (down s.start) one_more ∙ ap₂ (λ y l. y ∷ l) here (ap (λ b. down b (t.end - b)) (sym h.0))
+
+-- ---- The tests of some rows
+
+module _ (rows : Rows) where
+  pub blank_rows : (is : List ℕ) → list_all (λ i. is_blank (row_at rows i)) is ≡ all_blank rows is
+  unfolding all_blank
+  blank_rows [] = refl
+  blank_rows (i ∷ is) = ap (λ b. is_blank (row_at rows i) && b) (blank_rows is)
+
+  pub dated_rows : (day : ℕ) (is : List ℕ) → list_any (λ i. is_dated day (entry_in rows i)) is ≡ dated_from day (intact_in rows is)
+  unfolding dated_from intact_in
+  dated_rows day [] = refl
+  dated_rows day (i ∷ is) = ap (λ b. is_dated day (entry_in rows i) || b) (dated_rows day is) ∙ by (entry_in rows i) ∙ sym (ap (dated_from day) (intact_next rows i is))
+    where
+      by : (o : Option (ℕ × Record)) → (is_dated day o || dated_from day (intact_in rows is)) ≡ dated_from day (when_some o (intact_in rows is) (λ x. x ∷ intact_in rows is))
+      by None = refl
+      by (Some x) = refl
+
+  pub record_rows : (is : List ℕ) → list_any (λ i. is_there (entry_in rows i)) is ≡ not (eqb (length (intact_in rows is)) 0)
+  unfolding intact_in
+  record_rows [] = refl
+  record_rows (i ∷ is) = ap (λ b. is_there (entry_in rows i) || b) (record_rows is) ∙ by (entry_in rows i) ∙ sym (ap (λ xs. not (eqb (length xs) 0)) (intact_next rows i is))
+    where
+      by : (o : Option (ℕ × Record))
+          → (is_there o || not (eqb (length (intact_in rows is)) 0)) ≡ not (eqb (length (when_some o (intact_in rows is) (λ x. x ∷ intact_in rows is))) 0)
+      by None = refl
+      by (Some x) = sym (ap not (ne_eqb (suc (length (intact_in rows is))) 0 (λ z. omega arith)))
 
   -- ---- The free row, from the back
-
-  pub free_begin : after_nonblank rows (16 * page) (rows_of page) ≡ after_nonblank rows (page * 16) (from (page * 16) 16)
-  free_begin = let same : 16 * page ≡ page * 16 = omega arith in ap (λ a. after_nonblank rows a (from a 16)) same
 
   free_last : (n a so_far : ℕ) → after_nonblank rows so_far (from a (suc n)) ≡ cond (is_blank (row_at rows (a + n))) (after_nonblank rows so_far (from a n)) (a + n + 1)
   unfolding after_nonblank
@@ -44,82 +86,47 @@ module _ (rows : Rows) (page : ℕ) where
       let next = cond (is_blank (row_at rows a)) so_far (a + 1) in
       free_last n (suc a) next ∙ ap (λ i. cond (is_blank (row_at rows i)) (after_nonblank rows next (from (suc a) n)) (i + 1)) here
 
-  -- the last of so many rows of the page by itself
-  pub free_more : (i n : ℕ) → n ≡ i + 1
-      → after_nonblank rows (page * 16) (from (page * 16) n)
-      ≡ cond (is_blank (row_at rows (page * 16 + i))) (after_nonblank rows (page * 16) (from (page * 16) i)) (page * 16 + i + 1)
-  free_more i n e = let here : n ≡ suc i = omega arith in ap (λ k. after_nonblank rows (page * 16) (from (page * 16) k)) here ∙ free_last i (page * 16) (page * 16)
-
-  pub free_none : (n : ℕ) → n ≡ 0 → after_nonblank rows (page * 16) (from (page * 16) n) ≡ page * 16
+  -- the row after the last that is not blank, the first where all are blank
+  free_found : (a n free : ℕ) → MatchOption (find (λ i. not (is_blank (row_at rows i))) (down a n)) (free ≡ a) (λ i. free ≡ i + 1) → free ≡ after_nonblank rows a (from a n)
   unfolding after_nonblank
-  free_none n e = ap (λ k. after_nonblank rows (page * 16) (from (page * 16) k)) e
-
-  pub free_is : (free : ℕ) → after_nonblank rows (16 * page) (rows_of page) ≡ free → free_in rows page ≡ if_in_page page free
-  unfolding free_in
-  free_is free e =
-      let same : 16 * page + 16 ≡ page * 16 + 16 = omega arith in ap₂ (λ i n. cond (ltb i n) (some i) none) e same
-
-  -- ---- Records
-
-  any_next : (i : ℕ) → i < 16 → intact_in rows (page_left i) ≡ when_some (entry_in rows (page * 16 + i)) (intact_in rows (page_left (i + 1))) (λ x. x ∷ intact_in rows (page_left (i + 1)))
-  any_next i inside = ap (intact_in rows) (page_more i inside) ∙ intact_next rows (page * 16 + i) (page_left (i + 1))
-
-  -- ---- Dates
-
-  pub dated_begin : (day : ℕ) → dated_from day (intact_in rows (rows_of page)) ≡ dated_from day (intact_in rows (page_left 0))
-  dated_begin day = ap (λ is. dated_from day (intact_in rows is)) page_begin
-
-  pub dated_more : (day i : ℕ) → i < 16
-      → dated_from day (intact_in rows (page_left i)) ≡ (is_dated day (entry_in rows (page * 16 + i)) || dated_from day (intact_in rows (page_left (i + 1))))
-  unfolding dated_from
-  dated_more day i inside = ap (dated_from day) (any_next i inside) ∙ by (entry_in rows (page * 16 + i))
+  free_found a zero free h = h
+  free_found a (suc n) free h = at (is_blank (row_at rows (a + n))) (free_found a n free) h ∙ sym (free_last n a a)
     where
-      by : (o : Option (ℕ × Record))
-          → dated_from day (when_some o (intact_in rows (page_left (i + 1))) (λ x. x ∷ intact_in rows (page_left (i + 1))))
-          ≡ (is_dated day o || dated_from day (intact_in rows (page_left (i + 1))))
-      by none = refl
-      by (some x) = refl
+      rest : Option ℕ
+      rest = find (λ i. not (is_blank (row_at rows i))) (down a n)
 
-  pub dated_none : (day i : ℕ) → 16 ≤ i → dated_from day (intact_in rows (page_left i)) ≡ false
-  unfolding dated_from intact_in
-  dated_none day i past = ap (λ is. dated_from day (intact_in rows is)) (page_none i past)
+      at : (b : Bool) → (MatchOption rest (free ≡ a) (λ i. free ≡ i + 1) → free ≡ after_nonblank rows a (from a n))
+          → MatchOption (cond (not b) (Some (a + n)) rest) (free ≡ a) (λ i. free ≡ i + 1)
+          → free ≡ cond b (after_nonblank rows a (from a n)) (a + n + 1)
+      at true before h = before h
+      at false before h = h
 
-  -- ---- Blank pages
+  pub free_is :
+      (page start end free : ℕ) (last : Option ℕ) (P : ℕ → Type 0) → start ≡ 16 * page → end ≡ 16 * page + 16
+      → last ≡ find (λ i. not (is_blank (row_at rows i))) (down start (end - start)) → MatchOption last (free ≡ start) P → ((i : ℕ) → P i → free ≡ i + 1)
+      → (then_some (ltb free end) free) ≡ free_in rows page
+  unfolding free_in
+  free_is page start end free last P begins ends e h k = by (ltb free end) ∙ ap₂ (λ i n. cond (ltb i n) (Some i) None) found ends
+    where
+      Tells : Option ℕ → Type 0
+      Tells o = MatchOption o (free ≡ start) (λ i. free ≡ i + 1)
 
-  pub blank_begin : all_blank rows (rows_of page) ≡ all_blank rows (page_left 0)
-  blank_begin = ap (all_blank rows) page_begin
+      tells : (o : Option ℕ) → MatchOption o (free ≡ start) P → Tells o
+      tells None h = h
+      tells (Some i) h = k i h
 
-  pub blank_more : (i : ℕ) → i < 16 → all_blank rows (page_left i) ≡ (is_blank (row_at rows (page * 16 + i)) && all_blank rows (page_left (i + 1)))
-  unfolding all_blank
-  blank_more i inside = ap (all_blank rows) (page_more i inside)
+      long : end - start ≡ 16
+      long = omega arith
 
-  pub blank_none : (i : ℕ) → 16 ≤ i → all_blank rows (page_left i) ≡ true
-  unfolding all_blank
-  blank_none i past = ap (all_blank rows) (page_none i past)
+      found : free ≡ after_nonblank rows (16 * page) (rows_of page)
+      found = free_found start (end - start) free (subst Tells e (tells last h)) ∙ ap₂ (λ a n. after_nonblank rows a (from a n)) begins long
 
--- ---- Rows up to an end
-
-module _ (rows : Rows) (end : ℕ) where
-  range_next : (i : ℕ) → i < end
-      → intact_in rows (from i (end - i)) ≡ when_some (entry_in rows i) (intact_in rows (from (i + 1) (end - (i + 1)))) (λ x. x ∷ intact_in rows (from (i + 1) (end - (i + 1))))
-  range_next i inside = ap (intact_in rows) (from_more i end inside) ∙ intact_next rows i (from (i + 1) (end - (i + 1)))
-
-  pub any_found : (i : ℕ) (x : ℕ × Record) → i < end → entry_in rows i ≡ some x → any_record rows i end ≡ true
-  any_found i x inside e =
-      let rest = intact_in rows (from (i + 1) (end - (i + 1))) in
-      ap (λ xs. not (eqb (length xs) 0)) (range_next i inside ∙ ap (λ o. when_some o rest (λ y. y ∷ rest)) e) ∙ ap not (ne_eqb (suc (length rest)) 0 (λ z. omega arith))
-
-  pub any_more : (i : ℕ) → i < end → entry_in rows i ≡ none → any_record rows i end ≡ any_record rows (i + 1) end
-  any_more i inside e =
-      let rest = intact_in rows (from (i + 1) (end - (i + 1))) in
-      ap (λ xs. not (eqb (length xs) 0)) (range_next i inside ∙ ap (λ o. when_some o rest (λ y. y ∷ rest)) e)
-
-  pub any_none : (i : ℕ) → end ≤ i → any_record rows i end ≡ false
-  unfolding intact_in
-  any_none i past = ap (λ is. not (eqb (length (intact_in rows is)) 0)) (from_none i end past)
+      by : (b : Bool) → (then_some b free) ≡ cond b (Some free) None
+      by true = refl
+      by false = refl
 
 -- behind a page's free row there is no record
-module _ (rows : Rows) (page free : ℕ) (e : free_in rows page ≡ some free) where
+module _ (rows : Rows) (page free : ℕ) (e : free_in rows page ≡ Some free) where
   intact_front : (is js : List ℕ) → intact_in rows js ≡ [] → intact_in rows (is ++ js) ≡ intact_in rows is
   unfolding intact_in
   intact_front [] js none_there = none_there
@@ -132,12 +139,27 @@ module _ (rows : Rows) (page free : ℕ) (e : free_in rows page ≡ some free) w
       ∙ seen_none_in (sight rows) (from free (16 * page + 16 - free))
       (λ j among. let within = from_among free (16 * page + 16 - free) j among in blank_sight rows j (at.blank j (omega (arith, within)) (omega (arith, within))))
 
-  pub holds_before : holds_record rows page ≡ any_record rows (page * 16) free
+  pub holds_before : holds_record rows page ≡ any_record rows (16 * page) free
   unfolding holds_record
   holds_before =
       let at = first_free rows page free e in
-      let same : 16 * page ≡ page * 16 = omega arith in
       ap (λ xs. not (eqb (length xs) 0))
       (ap (intact_in rows) (sym (from_append (16 * page) (free - 16 * page) (16 * page + 16 - free) free 16 (omega arith) (omega arith)))
-      ∙ intact_front (from (16 * page) (free - 16 * page)) (from free (16 * page + 16 - free)) behind_none
-      ∙ ap (λ a. intact_in rows (from a (free - a))) same)
+      ∙ intact_front (from (16 * page) (free - 16 * page)) (from free (16 * page + 16 - free)) behind_none)
+
+-- the free row of a page, unless a record stands before it
+pub free_kept :
+    (rows : Rows) (page : ℕ) (o r : Option ℕ) (P : ℕ → Bool → Type 0) → o ≡ free_in rows page
+    → MatchOption o (r ≡ None) (λ i. (b : Bool) × P i b × (r ≡ then_some b i)) → ((i : ℕ) (b : Bool) → P i b → b ≡ not (any_record rows (16 * page) i))
+    → r ≡ free_in_empty rows page
+free_kept rows page None r P e h k = h ∙ by (holds_record rows page) ∙ ap (cond (holds_record rows page) None) e
+  where
+    by : (b : Bool) → ◌≡◌ {A = Option ℕ} None (cond b None None)
+    by true = refl
+    by false = refl
+free_kept rows page (Some i) r P e h k =
+    (h.2 ∙ ap (λ b. then_some b i) (k i h.0 h.1 ∙ ap not (sym (holds_before rows page i (sym e))))) ∙ by (holds_record rows page) ∙ ap (cond (holds_record rows page) None) e
+  where
+    by : (b : Bool) → (then_some (not b) i) ≡ cond b None (Some i)
+    by true = refl
+    by false = refl

@@ -1,70 +1,98 @@
 -- The pages of a release, one by one along the round
-use Rattle.std.proofs.Common.{◌≡◌, ℕ, zero, suc, ◌+◌, ◌-◌, ◌*◌, ◌%◌, ◌^◌, ◌<◌, ◌≤◌, Bool, true, false, cond, ltb, List, [], ◌∷◌, ◌++◌, map, length, get_or, take, set, sym, refl, ap, ◌∙◌, subst, ap₂, inl, inr, append_assoc, append-nil, arith}
-use mathlib.Core.Option.{none, some}
-use Rattle.std.proofs.lemmas.List.{get_or-take, length-take-le, take_more}
-use Rattle.std.proofs.lemmas.Bool.{ltb-true, ltb-false, lt-ltb, le-ltb}
-use Rattle.rules.specs.Lists.{Among, joined}
+use Rattle.std.proofs.Common.{◌≡◌, ℕ, zero, suc, ◌+◌, ◌-◌, ◌*◌, ◌%◌, ◌^◌, ◌<◌, ◌≤◌, Bool, true, false, cond, ◌||◌, eqb, List, [], ◌∷◌, ◌++◌, map, drop, length, get_or, take, set, MatchOption, sym, refl, ap, ◌∙◌, subst, ap₂, inl, inr, append_assoc, append-nil, arith, Option, None, Some}
+use Rattle.std.specs.Prelude.{option_map}
+use Rattle.std.proofs.lemmas.List.{length-append, length-drop, take_all, take_more}
+use Rattle.std.proofs.lemmas.Bool.{lt-ltb}
+use Rattle.rules.specs.Lists.{Among, when_some, from, joined}
 use Rattle.rules.specs.Rows.{blank_row}
-use Rattle.rules.specs.Media.{Outcome, accepted, refused, erases, one_more}
-use Rattle.rules.specs.Memory.{Rows, pages, rows_of, newest, all_blank, stops_at, erasable, released_pages, round, blanked, erased}
-use Rattle.rules.proofs.Rounds.{pages_append, turn_among}
+use Rattle.rules.specs.Media.{Shaped, Outcome, accepted, refused, erases, one_more}
+use Rattle.rules.specs.Memory.{Rows, pages, page_of, rows_of, intact_in, dated_from, newest, all_blank, stops_at, erasable, released_pages, round, blanked, erased}
+use Rattle.rules.proofs.Rounds.{pages_append, turn, turn_among}
 use Rattle.rules.proofs.Erasing.{blanked_length}
 use Rattle.rules.proofs.Memories.{first_page, round_is, start_fits}
-use Rattle.memory.specs.Rounds.{place_along}
-use Rattle.memory.specs.Releases.{page_at, releases}
-use Rattle.memory.proofs.Turns.{left, left_more, left_none, turn_is_left}
+use Rattle.memory.specs.declared.entry.Entry.{Entry}
+use Rattle.memory.specs.Entries.{entry_of}
+use Rattle.memory.specs.Releases.{releases}
 
--- a place along a round lies within it
-pub along_inside : (first count k : ℕ) → first ≤ count → k < count → place_along first count k < count
-along_inside first count k fits inside = at (ltb (first + k) count) refl
+-- whether a release stops, by whether it stops at a date and what is told of the newest record
+pub stops_told :
+    (rows : Rows) (day page : ℕ) (t r : Bool) (o : Option Entry) (P : Entry → Type 0) → t ≡ dated_from day (intact_in rows (rows_of page)) → option_map entry_of o ≡ newest rows
+    → MatchOption o (r ≡ false) P → ((e : Entry) → P e → r ≡ eqb (page_of e.row) page) → (t || r) ≡ stops_at rows day page
+unfolding stops_at
+stops_told rows day page t r o P is e h k = ap₂ ◌||◌ is (by o h ∙ ap (λ o. when_some o false (λ n. eqb (page_of n.0) page)) e)
   where
-    at : (t : Bool) → ltb (first + k) count ≡ t → cond t (first + k) (first + k - count) < count
-    at true is = ltb-true (first + k) count is
-    at false is = omega (arith, ltb-false (first + k) count is)
+    by : (o : Option Entry) → MatchOption o (r ≡ false) P → r ≡ when_some (option_map entry_of o) false (λ n. eqb (page_of n.0) page)
+    by None h = h
+    by (Some e) h = k e h
 
-module _ (rows : Rows) (day : ℕ) where
-  -- the first page of a round, and the pages that are left to erase from a place on
-  abbrev pub first : ℕ
-  first = first_page (newest rows)
+pub stops_dated : (rows : Rows) (day page : ℕ) → true ≡ dated_from day (intact_in rows (rows_of page)) → true ≡ stops_at rows day page
+unfolding stops_at
+stops_dated rows day page e = ap (λ t. t || when_some (newest rows) false (λ n. eqb (page_of n.0) page)) e
 
-  abbrev pub to_erase : ℕ → List ℕ
-  to_erase k = erasable rows day (left (first_page (newest rows)) (pages rows) k)
+pub first_fits : (rows : Rows) (count : ℕ) → length rows ≡ 16 * count → first_page (newest rows) ≤ pages rows
+first_fits rows count whole = omega (arith, start_fits rows count whole)
 
-  pub first_fits : (count : ℕ) → length rows ≡ 16 * count → first_page (newest rows) ≤ pages rows
-  first_fits count whole = omega (arith, start_fits rows count whole)
+-- at first the release goes over all pages of the round
+pub erase_begin : (rows : Rows) (day : ℕ) (found : List ℕ) → found ≡ []
+    → (released_pages rows day ≡ found ++ erasable rows day (turn (first_page (newest rows)) (pages rows))) × (length found ≤ 0)
+unfolding released_pages
+erase_begin rows day found e =
+    (ap (erasable rows day) (round_is rows) ∙ ap (λ ps. ps ++ erasable rows day (turn (first_page (newest rows)) (pages rows))) (sym e), omega (arith, ap length e))
 
-  pub erase_begin : (count : ℕ) → length rows ≡ 16 * count → released_pages rows day ≡ to_erase 0
-  unfolding released_pages
-  erase_begin count whole = ap (erasable rows day) (round_is rows ∙ turn_is_left (first_page (newest rows)) (pages rows) (first_fits count whole))
-
-  erase_more : (k p : ℕ) → k < pages rows → p ≡ place_along (first_page (newest rows)) (pages rows) k
-      → to_erase k ≡ cond (stops_at rows day p) [] (cond (all_blank rows (rows_of p)) (to_erase (k + 1)) (p ∷ to_erase (k + 1)))
+module _ (rows : Rows) (day : ℕ) (found left rest : List ℕ) (p : ℕ) (more : left ≡ p ∷ rest) where
+  erase_next : erasable rows day left ≡ cond (stops_at rows day p) [] (cond (all_blank rows (rows_of p)) (erasable rows day rest) (p ∷ erasable rows day rest))
   unfolding erasable
-  erase_more k p inside here =
-      ap (erasable rows day) (left_more (first_page (newest rows)) (pages rows) k inside ∙ ap (λ q. q ∷ left (first_page (newest rows)) (pages rows) (k + 1)) (sym here))
+  erase_next = ap (erasable rows day) more
 
-  module _ (found : List ℕ) (k p : ℕ) (inside : k < pages rows) (here : p ≡ place_along (first_page (newest rows)) (pages rows) k) where
-    -- the release stops
-    pub erase_stops : stops_at rows day p ≡ true → found ++ to_erase k ≡ found
-    erase_stops stops =
-        ap (λ ps. found ++ ps)
-        (erase_more k p inside here ∙ ap (λ t. cond t [] (cond (all_blank rows (rows_of p)) (to_erase (k + 1)) (p ∷ to_erase (k + 1)))) stops)
-        ∙ append-nil found
+  -- the release stops at the page
+  pub erase_stops : true ≡ stops_at rows day p → found ++ erasable rows day left ≡ found
+  erase_stops stops =
+      ap (λ ps. found ++ ps) (erase_next ∙ ap (λ t. cond t [] (cond (all_blank rows (rows_of p)) (erasable rows day rest) (p ∷ erasable rows day rest))) (sym stops))
+      ∙ append-nil found
 
-    -- the page is found, unless it is blank
-    pub erase_goes_on : (then : List ℕ) → stops_at rows day p ≡ false → then ≡ cond (all_blank rows (rows_of p)) found (found ++ (p ∷ [])) → found ++ to_erase k ≡ then ++ to_erase (k + 1)
-    erase_goes_on then stays e =
-        ap (λ ps. found ++ ps)
-        (erase_more k p inside here ∙ ap (λ t. cond t [] (cond (all_blank rows (rows_of p)) (to_erase (k + 1)) (p ∷ to_erase (k + 1)))) stays)
-        ∙ (by (all_blank rows (rows_of p)) ∙ ap (λ ps. ps ++ to_erase (k + 1)) (sym e))
-      where
-        by : (t : Bool) → found ++ cond t (to_erase (k + 1)) (p ∷ to_erase (k + 1)) ≡ cond t found (found ++ (p ∷ [])) ++ to_erase (k + 1)
-        by true = refl
-        by false = sym (append_assoc found (p ∷ []) (to_erase (k + 1)))
+  -- it goes on after a blank page, and after one that is found
+  pub erase_passes : false ≡ stops_at rows day p → true ≡ all_blank rows (rows_of p) → found ++ erasable rows day left ≡ found ++ erasable rows day rest
+  erase_passes stays blank =
+      ap (λ ps. found ++ ps)
+      (erase_next ∙ ap₂ (λ t b. cond t [] (cond b (erasable rows day rest) (p ∷ erasable rows day rest))) (sym stays) (sym blank))
 
-  pub erase_none : (found : List ℕ) (k : ℕ) → pages rows ≤ k → found ++ to_erase k ≡ found
-  unfolding erasable
-  erase_none found k past = ap (λ ps. found ++ erasable rows day ps) (left_none (first_page (newest rows)) (pages rows) k past) ∙ append-nil found
+  pub erase_finds : (then : List ℕ) → then ≡ found ++ (p ∷ []) → false ≡ stops_at rows day p → false ≡ all_blank rows (rows_of p) → found ++ erasable rows day left ≡ then ++ erasable rows day rest
+  erase_finds then one_more stays blank =
+      ap (λ ps. found ++ ps)
+      (erase_next ∙ ap₂ (λ t b. cond t [] (cond b (erasable rows day rest) (p ∷ erasable rows day rest))) (sym stays) (sym blank))
+      ∙ sym (append_assoc found (p ∷ []) (erasable rows day rest))
+      ∙ ap (λ ps. ps ++ erasable rows day rest) (sym one_more)
+
+pub erase_none : (rows : Rows) (day : ℕ) (found left : List ℕ) → left ≡ [] → found ++ erasable rows day left ≡ found
+unfolding erasable
+erase_none rows day found left e = ap (λ ps. found ++ erasable rows day ps) e ∙ append-nil found
+
+among_drop : (p n : ℕ) (ps : List ℕ) → Among p (drop n ps) → Among p ps
+among_drop p zero ps m = m
+among_drop p (suc n) [] m = absurd m
+among_drop p (suc n) (q ∷ ps) m = inr (among_drop p n ps m)
+
+length-from : (a n : ℕ) → length (from a n) ≡ n
+length-from a zero = refl
+length-from a (suc n) = ap suc (length-from (suc a) n)
+
+-- a page of the round is one that a memory can have, and there are no more of them
+module _ (rows : Rows) (shape : Shaped rows) (passed rest : List ℕ) (p : ℕ) (more : drop (length passed) (turn (first_page (newest rows)) (pages rows)) ≡ p ∷ rest) where
+  fits : first_page (newest rows) ≤ pages rows
+  fits = first_fits rows shape.pages shape.whole
+
+  pub page_fits : p < 64
+  page_fits =
+      let among = among_drop p (length passed) (turn (first_page (newest rows)) (pages rows)) (subst (Among p) (sym more) (inl refl)) in
+      omega (arith, turn_among (first_page (newest rows)) (pages rows) p fits among, shape.whole, shape.most)
+
+  pub passed_fits : length passed < 64
+  passed_fits =
+      let first = first_page (newest rows) in
+      let whole : length (turn first (pages rows)) ≡ length (from first (pages rows - first)) + length (from 0 first) = length-append (from first (pages rows - first)) (from 0 first) in
+      let left : length (drop (length passed) (turn first (pages rows))) ≡ suc (length rest) = ap length more in
+      omega
+      (arith, left, length-drop (length passed) (turn first (pages rows)), whole, length-from first (pages rows - first), length-from 0 first, fits, shape.whole, shape.most)
 
 -- ---- Erasing them
 
@@ -84,7 +112,7 @@ module _ (rows : Rows) (day : ℕ) where
   pub released_inside : (count : ℕ) → length rows ≡ 16 * count → (p : ℕ) → Among p (released_pages rows day) → p < pages rows
   unfolding released_pages
   released_inside count whole p m =
-      turn_among (first_page (newest rows)) (pages rows) p (first_fits rows day count whole) (subst (Among p) (round_is rows) (erasable_among p (round rows) m))
+      turn_among (first_page (newest rows)) (pages rows) p (first_fits rows count whole) (subst (Among p) (round_is rows) (erasable_among p (round rows) m))
 
 pub getD_among : (xs : List ℕ) (i : ℕ) → i < length xs → Among (get_or xs i 0) xs
 getD_among [] i h = absurd (omega arith)
@@ -125,46 +153,27 @@ pub count_none : (writes : ℕ) → writes < 2 ^ 32 → writes ≡ (writes + 0) 
 count_none writes h = omega arith
 
 -- the next page of the release is erased
-module _ (before : Rows) (day count : ℕ) (whole : length before ≡ 16 * count) (list : List ℕ) (len i : ℕ) (all : take len list ≡ released_pages before day) (inside : i < len) (room : len ≤ length list)
-  where
-    next_inside : get_or list i 0 < pages before
-    next_inside =
-        let here : get_or (take len list) i 0 ≡ get_or list i 0 = get_or-take len list i 0 inside in
-        let size : length (take len list) ≡ len = length-take-le len list room in
-        let among = subst (λ ps. Among (get_or (take len list) i 0) ps) all (getD_among (take len list) i (omega (arith, size, inside))) in
-        omega (arith, released_inside before day count whole (get_or (take len list) i 0) among, here)
+module _ (before : Rows) (day count : ℕ) (whole : length before ≡ 16 * count) (ps : List ℕ) (all : ps ≡ released_pages before day) (i : ℕ) (inside : i < length ps) where
+  next_inside : get_or ps i 0 < pages before
+  next_inside = released_inside before day count whole (get_or ps i 0) (subst (Among (get_or ps i 0)) all (getD_among ps i inside))
 
-    pub release_step :
-        (rows left : Rows) (start writes then : ℕ) (o : Outcome) → rows ≡ erased before (take i list) → writes ≡ (start + i) % 2 ^ 32
-        → erases rows writes (get_or list i 0) ≡ (o, left, then)
-        → (left ≡ erased before (take (i + 1) list)) × (then ≡ (start + (i + 1)) % 2 ^ 32)
-    release_step rows left start writes then o so_far counted e =
-        let page = get_or list i 0 in
-        let same : length rows ≡ length before = ap length so_far ∙ erased_length before (take i list) in
-        let told = erase_told rows left writes then page o (omega (arith, next_inside, same)) e in (
-          told.0 ∙ (ap (λ r. erased r (page ∷ [])) so_far ∙ (erased_push before (take i list) page ∙ ap (erased before) (sym (take_more list i 0 (omega (arith, inside, room)))))),
-          told.1 ∙ (ap one_more counted ∙ count_on start i),
-        )
+  pub release_step :
+      (rows left : Rows) (start writes then : ℕ) (o : Outcome) → rows ≡ erased before (take i ps) → writes ≡ (start + i) % 2 ^ 32
+      → erases rows writes (get_or ps i 0) ≡ (o, left, then)
+      → (left ≡ erased before (take (i + 1) ps)) × (then ≡ (start + (i + 1)) % 2 ^ 32)
+  release_step rows left start writes then o so_far counted e =
+      let page = get_or ps i 0 in
+      let same : length rows ≡ length before = ap length so_far ∙ erased_length before (take i ps) in
+      let option_map = erase_told rows left writes then page o (omega (arith, next_inside, same)) e in (
+        option_map.0 ∙ (ap (λ r. erased r (page ∷ [])) so_far ∙ (erased_push before (take i ps) page ∙ ap (erased before) (sym (take_more ps i 0 inside)))),
+        option_map.1 ∙ (ap one_more counted ∙ count_on start i),
+      )
 
 -- all pages of the release are erased
 pub release_done :
-    (before rows : Rows) (day start writes : ℕ) (list : List ℕ) (len i : ℕ) → take len list ≡ released_pages before day → len ≤ length list → i ≡ len
-    → rows ≡ erased before (take i list) → writes ≡ (start + i) % 2 ^ 32
-    → releases before start day ≡ (len, rows, writes)
-release_done before rows day start writes list len i all room ends left counted =
-    ap (λ ps. (length ps, erased before ps, (start + length ps) % 2 ^ 32)) (sym all)
-    ∙ (ap (λ n. (n, erased before (take len list), (start + n) % 2 ^ 32)) (length-take-le len list room)
-    ∙ ap₂ (λ r w. (len, r, w)) (sym (left ∙ ap (λ n. erased before (take n list)) ends)) (sym (counted ∙ ap (λ n. (start + n) % 2 ^ 32) ends)))
-
--- ---- The i-th page
-
-module _ (list : List ℕ) (len i : ℕ) (room : len ≤ length list) where
-  size : length (take len list) ≡ len
-  size = length-take-le len list room
-
-  pub page_there : i < len → page_at (take len list) i ≡ some (get_or list i 0)
-  page_there h =
-      ap (λ t. cond t (some (get_or (take len list) i 0)) none) (lt-ltb i (length (take len list)) (omega (arith, size, h))) ∙ ap some (get_or-take len list i 0 h)
-
-  pub page_missing : len ≤ i → page_at (take len list) i ≡ none
-  page_missing h = ap (λ t. cond t (some (get_or (take len list) i 0)) none) (le-ltb i (length (take len list)) (omega (arith, size, h)))
+    (before rows : Rows) (day start writes : ℕ) (ps : List ℕ) (i : ℕ) → ps ≡ released_pages before day → i ≡ length ps
+    → rows ≡ erased before (take i ps) → writes ≡ (start + i) % 2 ^ 32
+    → releases before start day ≡ (length ps, rows, writes)
+release_done before rows day start writes ps i all ends left counted =
+    ap (λ qs. (length qs, erased before qs, (start + length qs) % 2 ^ 32)) (sym all)
+    ∙ ap₂ (λ r w. (length ps, r, w)) (sym (left ∙ ap (erased before) (take_all i ps (omega (arith, ends))))) (sym (counted ∙ ap (λ n. (start + n) % 2 ^ 32) ends))

@@ -1,6 +1,5 @@
 -- The records of a memory, one by one
-use Rattle.std.proofs.Common.{◌≡◌, ℕ, zero, suc, ◌+◌, ◌-◌, ◌<◌, ◌≤◌, Bool, true, false, cond, ltb, List, [], ◌∷◌, length, sym, refl, ap, ◌∙◌, arith}
-use mathlib.Core.Option.{Option, none, some}
+use Rattle.std.proofs.Common.{◌≡◌, ℕ, zero, suc, ◌+◌, ◌-◌, ◌<◌, ◌≤◌, Bool, true, false, cond, ltb, List, [], ◌∷◌, length, sym, refl, ap, ◌∙◌, arith, Option, None, Some}
 use Rattle.std.proofs.lemmas.Bool.Decides.{nat_tests}
 use Rattle.rules.specs.Lists.{when_some, from}
 use Rattle.rules.specs.Records.{Record}
@@ -26,44 +25,44 @@ intact_next rows i is = by (read_row (row_at rows i))
   where
     by : (o : Option Record)
         → when_some o (intact_in rows is) (λ r. (i, r) ∷ intact_in rows is)
-        ≡ when_some (when_some o none (λ r. some (i, r))) (intact_in rows is) (λ x. x ∷ intact_in rows is)
-    by none = refl
-    by (some r) = refl
+        ≡ when_some (when_some o None (λ r. Some (i, r))) (intact_in rows is) (λ x. x ∷ intact_in rows is)
+    by None = refl
+    by (Some r) = refl
 
 -- ---- The largest
 
 better_assoc : (a b c : Option (ℕ × Record)) → better_of (better_of a b) c ≡ better_of a (better_of b c)
-better_assoc none b c = refl
-better_assoc (some x) none c = refl
-better_assoc (some x) (some y) none = either (ltb x.1.number y.1.number)
+better_assoc None b c = refl
+better_assoc (Some x) None c = refl
+better_assoc (Some x) (Some y) None = either (ltb x.1.number y.1.number)
   where
-    either : (t : Bool) → better_of (cond t (some y) (some x)) none ≡ cond t (some y) (some x)
+    either : (t : Bool) → better_of (cond t (Some y) (Some x)) None ≡ cond t (Some y) (Some x)
     either true = refl
     either false = refl
-better_assoc (some x) (some y) (some z) = at (ltb x.1.number y.1.number) refl (ltb y.1.number z.1.number) refl (ltb x.1.number z.1.number) refl
+better_assoc (Some x) (Some y) (Some z) = at (ltb x.1.number y.1.number) refl (ltb y.1.number z.1.number) refl (ltb x.1.number z.1.number) refl
   where
     at : (p : Bool) → ltb x.1.number y.1.number ≡ p → (q : Bool) → ltb y.1.number z.1.number ≡ q → (r : Bool) → ltb x.1.number z.1.number ≡ r
-        → better_of (cond p (some y) (some x)) (some z) ≡ better_of (some x) (cond q (some z) (some y))
+        → better_of (cond p (Some y) (Some x)) (Some z) ≡ better_of (Some x) (cond q (Some z) (Some y))
     at p ep q eq r er = grind (arith, nat_tests)
 
-largest_more : (x : ℕ × Record) (xs : List (ℕ × Record)) → largest (x ∷ xs) ≡ better_of (some x) (largest xs)
+largest_more : (x : ℕ × Record) (xs : List (ℕ × Record)) → largest (x ∷ xs) ≡ better_of (Some x) (largest xs)
 unfolding largest
 largest_more x xs = by (largest xs)
   where
-    by : (o : Option (ℕ × Record)) → when_some o (some x) (λ y. cond (ltb x.1.number y.1.number) (some y) (some x)) ≡ better_of (some x) o
-    by none = refl
-    by (some y) = refl
+    by : (o : Option (ℕ × Record)) → when_some o (Some x) (λ y. cond (ltb x.1.number y.1.number) (Some y) (Some x)) ≡ better_of (Some x) o
+    by None = refl
+    by (Some y) = refl
 
 -- the largest of the records in these rows, the first row by itself
 scan_more : (rows : Rows) (i : ℕ) (is : List ℕ) → largest (intact_in rows (i ∷ is)) ≡ better_of (entry_in rows i) (largest (intact_in rows is))
 scan_more rows i is = ap largest (intact_next rows i is) ∙ by (entry_in rows i)
   where
     by : (o : Option (ℕ × Record)) → largest (when_some o (intact_in rows is) (λ x. x ∷ intact_in rows is)) ≡ better_of o (largest (intact_in rows is))
-    by none = refl
-    by (some x) = largest_more x (intact_in rows is)
+    by None = refl
+    by (Some x) = largest_more x (intact_in rows is)
 
 module _ (rows : Rows) where
-  pub newest_begin : newest rows ≡ better_of none (largest (intact_in rows (from 0 (length rows - 0))))
+  pub newest_begin : newest rows ≡ better_of None (largest (intact_in rows (from 0 (length rows - 0))))
   unfolding newest
   newest_begin = let all : length rows ≡ length rows - 0 = omega arith in ap (λ n. largest (intact_in rows (from 0 n))) all
 
@@ -79,6 +78,6 @@ module _ (rows : Rows) where
   unfolding largest intact_in
   newest_end i best past = ap (λ is. better_of best (largest (intact_in rows is))) (from_none i (length rows) past) ∙ by best
     where
-      by : (b : Option (ℕ × Record)) → better_of b none ≡ b
-      by none = refl
-      by (some x) = refl
+      by : (b : Option (ℕ × Record)) → better_of b None ≡ b
+      by None = refl
+      by (Some x) = refl

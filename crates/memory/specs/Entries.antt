@@ -1,6 +1,5 @@
 -- Records with their rows
-use Rattle.std.specs.Prelude.{ℕ, cond, nat_lt}
-use Rattle.std.proofs.Math.Option.{Option, none, some}
+use Rattle.std.specs.Prelude.{ℕ, Bool, true, false, cond, List, length, nat_lt, Option, None, Some}
 use Rattle.rules.specs.Lists.{when_some}
 use Rattle.rules.specs.Records.{Record}
 use Rattle.rules.specs.Rows.{read_row}
@@ -11,12 +10,19 @@ use Rattle.memory.specs.declared.entry.Entry.{Entry}
 abbrev pub entry_of : Entry → ℕ × Record
 entry_of e = (e.row, record_of e.weighing)
 
+-- a row, if there is such a row
+abbrev pub row_in : Rows → ℕ → Option (List ℕ)
+row_in rows i = cond (nat_lt i (length rows)) (Some (row_at rows i)) None
+
 -- the record in a row, with the row
 abbrev pub entry_in : Rows → ℕ → Option (ℕ × Record)
-entry_in rows i = when_some (read_row (row_at rows i)) none (λ r. some (i, r))
+entry_in rows i = when_some (read_row (row_at rows i)) None (λ r. Some (i, r))
+
+abbrev pub is_there : Option (ℕ × Record) → Bool
+is_there o = when_some o false (λ x. true)
 
 -- the one with the larger number, the first of equals
 abbrev pub better_of : Option (ℕ × Record) → Option (ℕ × Record) → Option (ℕ × Record)
-better_of none y = y
-better_of (some x) none = some x
-better_of (some x) (some y) = cond (nat_lt x.1.number y.1.number) (some y) (some x)
+better_of None y = y
+better_of (Some x) None = Some x
+better_of (Some x) (Some y) = cond (nat_lt x.1.number y.1.number) (Some y) (Some x)

@@ -1,7 +1,6 @@
 -- The faults of a memory by number and place, and what its calls say
-use Rattle.std.proofs.Math.Option.{Option, none, some}
-use Rattle.std.specs.Prelude.{ℕ, List, Ok, Err, Option as CodeOption, Result, slice_set}
-use Rattle.rules.specs.Lists.{when_some, told}
+use Rattle.std.specs.Prelude.{ℕ, List, Ok, Err, Result, slice_set, Option, None, Some, option_map}
+use Rattle.rules.specs.Lists.{when_some}
 use Rattle.rules.specs.Records.{Record as TheRecord}
 use Rattle.rules.specs.Memory.{Rows, newest, find, disorder, next_row}
 use Rattle.rules.specs.Media.{Outcome, accepted, refused, one_more}
@@ -42,33 +41,28 @@ orders rows = when_some (disorder rows) accepted (refused 21)
 
 -- and with it its newest record
 abbrev pub checks : Rows → Outcome × Option (ℕ × TheRecord)
-checks rows = when_some (disorder rows) (accepted, newest rows) (λ i. (refused 21 i, none))
+checks rows = when_some (disorder rows) (accepted, newest rows) (λ i. (refused 21 i, None))
 
-abbrev pub newest_told : Result (CodeOption Entry) MemoryFault → Option (ℕ × TheRecord)
-newest_told (Ok entry) = told entry_of entry
-newest_told (Err e) = none
+abbrev pub newest_told : Result (Option Entry) MemoryFault → Option (ℕ × TheRecord)
+newest_told (Ok entry) = option_map entry_of entry
+newest_told (Err e) = None
 
 -- the record of a number
 abbrev pub finds : Rows → (number : ℕ) → Outcome × Option TheRecord
-finds rows number = when_some (find rows number) (refused 26 0, none) (λ r. (accepted, some r))
+finds rows number = when_some (find rows number) (refused 26 0, None) (λ r. (accepted, Some r))
 
 -- the record of a number, in a memory in order
 abbrev pub looks_up : Rows → (number : ℕ) → Outcome × Option TheRecord
-looks_up rows number = when_some (disorder rows) (finds rows number) (λ i. (refused 21 i, none))
+looks_up rows number = when_some (disorder rows) (finds rows number) (λ i. (refused 21 i, None))
 
 abbrev pub found : Result Record MemoryFault → Option TheRecord
-found (Ok r) = some (record_of r)
-found (Err e) = none
-
--- the last record after a row in order
-abbrev pub last_kept : Result (CodeOption Record) MemoryFault → Option TheRecord
-last_kept (Ok r) = told record_of r
-last_kept (Err e) = none
+found (Ok r) = Some (record_of r)
+found (Err e) = None
 
 -- a packed record goes to the next row: the outcome, that row, and what rows and count are then
 abbrev pub appends : Rows → (writes : ℕ) (packed : List ℕ) → Outcome × Option ℕ × Rows × ℕ
-appends rows writes packed = when_some (next_row rows) (refused 24 0, none, rows, writes) (λ i. (accepted, some i, slice_set rows i packed, one_more writes))
+appends rows writes packed = when_some (next_row rows) (refused 24 0, None, rows, writes) (λ i. (accepted, Some i, slice_set rows i packed, one_more writes))
 
 abbrev pub row_told : Result ℕ MemoryFault → Option ℕ
-row_told (Ok row) = some row
-row_told (Err e) = none
+row_told (Ok row) = Some row
+row_told (Err e) = None

@@ -1,6 +1,5 @@
 -- A store: the record that comes after the newest one, and what a store answers and leaves
-use Rattle.std.specs.Prelude.{ℕ, ◌+◌, Bool, false, cond, Ok, Err, Result, nat_lt, slice_set}
-use Rattle.std.proofs.Math.Option.{Option, none, some}
+use Rattle.std.specs.Prelude.{ℕ, ◌+◌, Bool, false, cond, Ok, Err, Result, nat_lt, slice_set, Option, None, Some}
 use Rattle.rules.specs.Lists.{when_some}
 use Rattle.rules.specs.Records.{Record, numbered, earlier}
 use Rattle.rules.specs.Rows.{packing}
@@ -20,12 +19,12 @@ number_after newest = when_some newest 1 (λ n. n.1.number + 1)
 
 -- such a number, if there is one of 32 bits
 abbrev pub number_left : (newest : Option (ℕ × Record)) → Option ℕ
-number_left newest = cond (nat_lt 4294967295 (number_after newest)) none (some (number_after newest))
+number_left newest = cond (nat_lt 4294967295 (number_after newest)) None (Some (number_after newest))
 
 -- the record under the number after the newest record's; refused where its stamp is earlier, or where no number is left
 abbrev pub follows : (newest : Option (ℕ × Record)) → Record → Outcome × Option Record
 follows newest r =
-    cond (is_earlier newest r) (refused 22 0, none) (when_some (number_left newest) (refused 23 0, none) (λ n. (accepted, some (numbered n r))))
+    cond (is_earlier newest r) (refused 22 0, None) (when_some (number_left newest) (refused 23 0, None) (λ n. (accepted, Some (numbered n r))))
 
 -- a record is programmed into a row
 abbrev pub writes_record : Rows → (writes row : ℕ) → Record → Outcome × Rows × ℕ

@@ -1,9 +1,9 @@
 ghost use Rattle.std.specs.Prelude.{◌≡◌};
-ghost use Rattle.rules.specs.Faults.{layer_of};
+ghost use Rattle.memory.specs.declared.fault.MemoryFault.TheVariants.{Medium};
 ghost use Rattle.memory.specs.Faults.{fault_number, fault_place};
 
 use media::MediumFault;
-use rules::Layer;
+use rules::Fault;
 
 /// Why a memory refuses.
 #[derive(Clone, Copy, PartialEq, Eq)]
@@ -22,11 +22,12 @@ pub enum MemoryFault {
     Medium(MediumFault),
 }
 
-impl MemoryFault {
-    /// The number of the fault.
-    pub fn number(self) -> u8
-        ensures { result ≡ fault_number self }
-    {
+impl Fault for MemoryFault {
+    ghost number_of = { fault_number };
+
+    ghost place_of = { fault_place };
+
+    fn number(self) -> u8 {
         match self {
             MemoryFault::Disorder(_) => 21,
             MemoryFault::Earlier => 22,
@@ -38,9 +39,7 @@ impl MemoryFault {
     }
 
     /// The row that breaks the order, the medium's place, or 0.
-    pub fn place(self) -> usize
-        ensures { result ≡ fault_place self }
-    {
+    fn place(self) -> usize {
         match self {
             MemoryFault::Disorder(row) => row,
             MemoryFault::Medium(fault) => fault.place(),
@@ -50,11 +49,13 @@ impl MemoryFault {
             | MemoryFault::Unknown => 0,
         }
     }
+}
 
-    /// The layer that the fault belongs to.
-    pub fn layer(self) -> Layer
-        ensures { result ≡ layer_of (fault_number self) }
-    {
-        Layer::of(self.number())
+/// A fault of the medium is carried whole.
+impl From<MediumFault> for MemoryFault {
+    ghost from_gives = { λ fault carried. carried ≡ Medium fault };
+
+    fn from(fault: MediumFault) -> MemoryFault {
+        MemoryFault::Medium(fault)
     }
 }

@@ -11,7 +11,7 @@ mod page;
 mod pages;
 mod reading;
 mod releasing;
-mod round;
+mod seen;
 mod storing;
 
 pub use entry::Entry;

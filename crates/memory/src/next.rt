@@ -1,62 +1,58 @@
-ghost use Rattle.std.specs.Prelude.{◌≡◌, ◌<◌, ◌≤◌};
-ghost use Rattle.rules.specs.Lists.{told};
-ghost use Rattle.rules.specs.Memory.{pages, newest as newest_of, next_row};
-ghost use Rattle.memory.specs.Entries.{entry_of};
-ghost use Rattle.memory.specs.Rounds.{page_after, free_in_empty, next_after};
+//! The row that the next record goes to.
 
-use crate::entry::Entry;
-use crate::page::{free_in, holds_record};
-use crate::reading::newest;
+ghost use Rattle.std.specs.Prelude.{◌≡◌, option_map};
+ghost use Rattle.rules.specs.Memory.{next_row};
+ghost use Rattle.memory.specs.Rounds.{free_in_empty, newest_page, next_page};
+
+use crate::page::{Page, free_in, holds_record};
+use crate::seen::Seen;
 use media::Medium;
 
-/// The page after this one, the first after the last.
-fn page_after(page: usize, count: usize) -> usize
-    requires { (page < count) × (count ≤ 64) }
-    ensures { result ≡ page_after page count }
-{
-    if page + 1 < count { page + 1 } else { 0 }
-}
-
 /// The free row of a page, provided that it holds no record.
-fn free_in_empty<M: Medium>(m: &M, page: usize) -> Option<usize>
-    requires { page < pages (M.rows m.now) }
-    ensures { told (λ i. i) result ≡ free_in_empty (M.rows m.now) page }
+fn free_in_empty<M: Medium>(m: &M, page: Page) -> Option<usize>
+    ensures { result ≡ free_in_empty (M.rows m.now) page.number }
 {
-    let Some(free) = free_in(m, page) else {
-        return None;
-    };
-    if holds_record(m, page * 16, free) {
-        None
-    } else {
-        Some(free)
-    }
+    free_in(m, page).filter(|&free| !holds_record(m, page.first_row()..free))
 }
 
-/// The free row of the newest record's page, else that of the page after it.
-fn next_after<M: Medium>(m: &M, page: usize) -> Option<usize>
-    requires { page < pages (M.rows m.now) }
-    ensures { told (λ i. i) result ≡ next_after (M.rows m.now) page }
-{
-    match free_in(m, page) {
-        Some(row) => Some(row),
-        None => free_in_empty(m, page_after(page, m.size())),
+impl<M: Medium> Seen<'_, M> {
+    /// The page of the newest record.
+    fn newest_page(&self) -> Option<Page>
+        ensures { option_map (λ p. p.number) result ≡ newest_page (M.rows self.now.medium.now) }
+    {
+        let entry = self.newest?;
+        Some(Page {
+            number: entry.page(),
+        })
     }
-}
 
-/// The row that the next record goes to, by the newest record, unless the memory is full.
-pub(crate) fn next_row_after<M: Medium>(m: &M, latest: Option<Entry>) -> Option<usize>
-    requires { told entry_of latest ≡ newest_of (M.rows m.now) }
-    ensures { told (λ i. i) result ≡ next_row (M.rows m.now) }
-{
-    match latest {
-        Some(entry) => next_after(m, entry.row / 16),
-        None => free_in_empty(m, 0),
+    /// The page after the newest record's, the first after the last.
+    fn next_page(&self) -> Page
+        ensures { result.number ≡ next_page (M.rows self.now.medium.now) }
+    {
+        let number = self.first_page();
+        if number < self.medium.size() {
+            Page { number }
+        } else {
+            Page { number: 0 }
+        }
+    }
+
+    /// The free row of the newest record's page, else that of the page after it, unless the memory is full.
+    pub(crate) fn next_row(&self) -> Option<usize>
+        ensures { result ≡ next_row (M.rows self.now.medium.now) }
+    {
+        let m = self.medium;
+        let after = self.next_page();
+        self.newest_page()
+            .and_then(|page| free_in(m, page))
+            .or_else(|| free_in_empty(m, after))
     }
 }
 
 /// The row that the next record goes to, unless the memory is full.
 pub fn next_row<M: Medium>(m: &M) -> Option<usize>
-    ensures { told (λ i. i) result ≡ next_row (M.rows m.now) }
+    ensures { result ≡ next_row (M.rows m.now) }
 {
-    next_row_after(m, newest(m))
+    Seen::of(m).next_row()
 }

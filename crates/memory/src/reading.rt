@@ -1,60 +1,72 @@
-ghost use Rattle.std.specs.Prelude.{◌≡◌, ◌<◌};
-ghost use Rattle.rules.specs.Lists.{told};
-ghost use Rattle.rules.specs.Rows.{read_row};
-ghost use Rattle.rules.specs.Memory.{newest as newest_of};
+//! What the rows of a memory hold, and the newest record in them.
+
+ghost use Rattle.std.specs.Prelude.{◌≡◌, option_map};
+ghost use Rattle.rules.specs.Rows.{read_row, is_blank};
+ghost use Rattle.rules.specs.Memory.{row_at, newest as newest_of};
 ghost use Rattle.records.specs.RecordsOf.{record_of};
-ghost use Rattle.memory.specs.Entries.{entry_of, entry_in, better_of};
+ghost use Rattle.memory.specs.Entries.{row_in, entry_of, entry_in, better_of};
 
 use crate::entry::Entry;
 use media::Medium;
 use records::{Record, Verdict, judge};
+use rules::is_blank;
+
+/// The bytes of a row, if the memory has it.
+fn bytes_of<M: Medium>(m: &M, row: usize) -> Option<[u8; 32]>
+    ensures { result ≡ row_in (M.rows m.now) row }
+{
+    let mut bytes = [0; 32];
+    m.read(row, &mut bytes).ok()?;
+    Some(bytes)
+}
+
+/// Whether a row of a memory is blank.
+pub(crate) fn is_blank_at<M: Medium>(m: &M, row: usize) -> bool
+    ensures { result ≡ is_blank (row_at (M.rows m.now) row) }
+{
+    bytes_of(m, row).is_some_and(
+        |bytes| -> bool
+            ensures { result ≡ is_blank bytes }
+        { is_blank(&bytes) },
+    )
+}
 
 /// The record of an intact row.
 fn intact(row: &[u8; 32]) -> Option<Record>
-    ensures { told record_of result ≡ read_row row.now }
+    ensures { option_map record_of result ≡ read_row row.now }
 {
-    match judge(row) {
-        Verdict::Intact(found) => Some(found),
-        Verdict::Blank => None,
-        Verdict::Damaged(_) => None,
+    if let Verdict::Intact(found) = judge(row) {
+        Some(found)
+    } else {
+        None
     }
 }
 
 /// The record in a row, if the row is intact.
 pub(crate) fn entry_at<M: Medium>(m: &M, row: usize) -> Option<Entry>
-    ensures { told entry_of result ≡ entry_in (M.rows m.now) row }
+    ensures { option_map entry_of result ≡ entry_in (M.rows m.now) row }
 {
-    let mut bytes = [0; 32];
-    match m.read(row, &mut bytes) {
-        Ok(()) => match intact(&bytes) {
-            Some(weighing) => Some(Entry { row, weighing }),
-            None => None,
-        },
-        Err(_) => None,
-    }
+    let bytes = bytes_of(m, row)?;
+    let weighing = intact(&bytes)?;
+    Some(Entry { row, weighing })
 }
 
 /// The entry with the larger number, the first of equals.
 fn better(best: Option<Entry>, next: Option<Entry>) -> Option<Entry>
-    ensures { told entry_of result ≡ better_of (told entry_of best) (told entry_of next) }
+    ensures { option_map entry_of result ≡ better_of (option_map entry_of best) (option_map entry_of next) }
 {
-    let Some(a) = best else {
-        return next;
-    };
-    let Some(b) = next else {
-        return best;
-    };
-    if a.weighing.number < b.weighing.number {
-        next
-    } else {
-        best
+    match (best, next) {
+        (Some(a), Some(b)) if a.weighing.number < b.weighing.number => next,
+        (None, _) => next,
+        _ => best,
     }
 }
 
 /// The newest record: the intact one with the largest number, in the lowest row among equals.
 pub fn newest<M: Medium>(m: &M) -> Option<Entry>
-    ensures { told entry_of result ≡ newest_of (M.rows m.now) }
+    ensures { option_map entry_of result ≡ newest_of (M.rows m.now) }
 {
+    // an indexed loop over the rows, by a rule of the project
     let mut best = None;
     for row in 0..m.size() * 16 {
         best = better(best, entry_at(m, row));

@@ -1,25 +1,13 @@
-use Rattle.std.proofs.Common.{◌+◌, ◌&&◌, sym, ap, ◌∙◌, arith}
-use Rattle.rules.specs.Memory.{all_blank}
-use Rattle.memory.proofs.PageScans.{page_left, blank_begin, blank_more, blank_none}
+use Rattle.std.proofs.Common.{◌≡◌, ◌-◌, ◌∙◌, arith, rules, tests}
+use Rattle.std.proofs.lemmas.Iterator.Search.{all_from_yields_List}
+use Rattle.rules.specs.Rows.{is_blank}
+use Rattle.rules.specs.Memory.{row_at, rows_of}
+use Rattle.memory.proofs.PageScans.{counts_up, blank_rows}
 use Rattle.memory.proofs.page.all_blank.Goals as goal
 
-pub loop-i-init : goal.loop-i-init
-loop-i-init g c = blank_begin (g.M.Medium.rows c.args.m.now) c.args.page
-
-pub returns-then-not-is_blank_at : goal.returns-then-not-is_blank_at
-returns-then-not-is_blank_at g c =
-    let rows = g.M.Medium.rows c.args.m.now in
-    sym
-    (c.loop-i.invariant
-    ∙ blank_more rows c.args.page c.loop-i.i c.loop-i-test.true
-    ∙ ap (λ b. b && all_blank rows (page_left rows c.args.page (c.loop-i.i + 1))) (sym c.is_blank_at.ensures ∙ c.if-not-is_blank_at.true))
-
-pub loop-i-preserved : goal.loop-i-preserved
-loop-i-preserved g c =
-    let rows = g.M.Medium.rows c.args.m.now in
-    c.loop-i.invariant
-    ∙ blank_more rows c.args.page c.loop-i.i c.loop-i-test.true
-    ∙ ap (λ b. b && all_blank rows (page_left rows c.args.page (c.loop-i.i + 1))) (sym c.is_blank_at.ensures ∙ c.if-not-is_blank_at.false)
-
 pub returns : goal.returns
-returns g c = sym (c.loop-i.invariant ∙ blank_none (g.M.Medium.rows c.args.m.now) c.args.page c.loop-i.i (omega arith))
+returns g c =
+    let rows = g.M.Medium.rows c.args.m.now in
+    let long : c.rows.result.end - c.rows.result.start ≡ 16 = omega (arith, c.rows.ensures.start, c.rows.ensures.end) in
+    all_from_yields_List (λ i. is_blank (row_at rows i)) _ _ _ c.all.ensures.ran (counts_up _ _ _ c.rows.ensures.start long) (λ x b q k. search (rules, tests))
+    ∙ blank_rows rows (rows_of c.args.page.number)

@@ -1,37 +1,15 @@
-use Rattle.std.proofs.Common.{◌+◌, ◌-◌, ◌*◌, cond, sym, ap, ◌∙◌, arith}
-use mathlib.Core.Option.{some, none}
-use Rattle.std.proofs.lemmas.Bool.{lt-ltb}
-use Rattle.rules.specs.Lists.{from}
-use Rattle.rules.specs.Memory.{after_nonblank}
-use Rattle.memory.proofs.PageScans.{free_begin, free_more, free_none, free_is}
+use Rattle.std.proofs.Common.{not, sym, ◌∙◌, rules, tests}
+use Rattle.std.proofs.lemmas.Iterator.Adapters.{option_map_id}
+use Rattle.std.proofs.lemmas.Iterator.Search.{find_from_yields_List}
+use Rattle.rules.specs.Rows.{is_blank}
+use Rattle.rules.specs.Memory.{row_at}
+use Rattle.memory.proofs.PageScans.{counts_down, free_is}
 use Rattle.memory.proofs.page.free_in.Goals as goal
-
-pub loop-i-init : goal.loop-i-init
-loop-i-init g c = free_begin (g.M.Medium.rows c.args.m.now) c.args.page
-
-pub loop-i-preserved : goal.loop-i-preserved
-loop-i-preserved g c =
-    let rows = g.M.Medium.rows c.args.m.now in
-    let page = c.args.page in
-    let i = c.loop-i.i - 1 in
-    c.loop-i.invariant
-    ∙ free_more rows page i c.loop-i.i (omega arith)
-    ∙ ap (λ b. cond b (after_nonblank rows (page * 16) (from (page * 16) i)) (page * 16 + i + 1)) (sym c.is_blank_at.ensures ∙ c.if-not-is_blank_at.false)
-
-pub returns-then-not-is_blank_at : goal.returns-then-not-is_blank_at
-returns-then-not-is_blank_at g c =
-    let rows = g.M.Medium.rows c.args.m.now in
-    let page = c.args.page in
-    let i = c.loop-i.i - 1 in
-    c.if_in_page.ensures
-    ∙ sym (free_is rows page (page * 16 + i + 1)
-    (c.loop-i.invariant
-    ∙ free_more rows page i c.loop-i.i (omega arith)
-    ∙ ap (λ b. cond b (after_nonblank rows (page * 16) (from (page * 16) i)) (page * 16 + i + 1)) (sym c.is_blank_at.ensures ∙ c.if-not-is_blank_at.true)))
 
 pub returns : goal.returns
 returns g c =
     let rows = g.M.Medium.rows c.args.m.now in
-    let page = c.args.page in
-    sym (free_is rows page (page * 16) (c.loop-i.invariant ∙ free_none rows page c.loop-i.i (omega arith))
-    ∙ ap (λ t. cond t (some (page * 16)) none) (lt-ltb (page * 16) (page * 16 + 16) (omega arith)))
+    let last = find_from_yields_List (λ i. not (is_blank (row_at rows i))) _ _ _ c.rfind-last.ensures.ran (counts_down _) (λ x b q k. search (rules, tests)) in
+    c.then_some.ensures
+    ∙ free_is rows c.args.page.number c.rows-start.result.start c.rows-start.result.end c.map_or-free.result c.rfind-last.result _ c.rows-start.ensures.start c.rows-start.ensures.end (sym (option_map_id _) ∙ last)
+    c.map_or-free.ensures (λ i p. search rules)

@@ -1,17 +1,12 @@
-use Rattle.std.proofs.Common.{sym, refl, ◌∙◌, arith}
-use Rattle.memory.proofs.PageScans.{any_found, any_more, any_none}
+use Rattle.std.proofs.Common.{◌-◌, refl, ◌∙◌, rules, tests}
+use Rattle.std.proofs.lemmas.Iterator.Search.{any_from_yields_List}
+use Rattle.rules.specs.Lists.{from}
+use Rattle.memory.specs.Entries.{entry_in, is_there}
+use Rattle.memory.proofs.PageScans.{counts_up, record_rows}
 use Rattle.memory.proofs.page.holds_record.Goals as goal
 
-pub loop-row-init : goal.loop-row-init
-loop-row-init g c = refl
-
-pub returns-in-Some : goal.returns-in-Some
-returns-in-Some g c =
-    sym (c.loop-row.invariant ∙ any_found (g.M.Medium.rows c.args.m.now) c.args.end c.loop-row.row _ c.loop-row-test.true (sym c.in-Some.ensures))
-
-pub loop-row-preserved : goal.loop-row-preserved
-loop-row-preserved g c =
-    c.loop-row.invariant ∙ any_more (g.M.Medium.rows c.args.m.now) c.args.end c.loop-row.row c.loop-row-test.true (sym c.in-None.ensures)
-
 pub returns : goal.returns
-returns g c = sym (c.loop-row.invariant ∙ any_none (g.M.Medium.rows c.args.m.now) c.args.end c.loop-row.row (omega arith))
+returns g c =
+    let rows = g.M.Medium.rows c.args.m.now in
+    any_from_yields_List (λ i. is_there (entry_in rows i)) _ _ _ c.any.ensures.ran (counts_up _ _ _ refl refl) (λ x b q k. search (rules, tests))
+    ∙ record_rows rows (from c.args.rows.start (c.args.rows.end - c.args.rows.start))

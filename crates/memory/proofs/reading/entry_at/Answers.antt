@@ -1,9 +1,9 @@
-use Rattle.std.proofs.Common.{sym, ap}
-use mathlib.Core.Option.{none, some}
-use Rattle.rules.specs.Lists.{when_some}
-use Rattle.memory.proofs.Judged.{refused_holds_none}
+use Rattle.std.proofs.Common.{ap, ◌∙◌}
+use Rattle.std.specs.Prelude.{option_map}
+use Rattle.memory.specs.Entries.{entry_of}
+use Rattle.memory.proofs.Judged.{no_row_no_entry}
 use Rattle.memory.proofs.reading.entry_at.Goals as goal
 
-pub returns-in-Err : goal.returns-in-Err
-returns-in-Err g c =
-    sym (ap (λ o. when_some o none (λ r. some (c.args.row, r))) (refused_holds_none (g.M.Medium.rows c.args.m.now) c.args.row _ _ _ _ c.in-Err.ensures))
+pub returns-in_err-bytes : goal.returns-in_err-bytes
+returns-in_err-bytes g c =
+    ap (option_map entry_of) c.from_residual.ensures ∙ no_row_no_entry (g.M.Medium.rows c.args.m.now) c.args.row (c.in_err-bytes.ensures)

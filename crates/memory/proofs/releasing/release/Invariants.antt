@@ -3,8 +3,8 @@ use Rattle.rules.specs.Memory.{erased}
 use Rattle.memory.proofs.releasing.release.Given as goal
 
 -- so many pages are erased, one write each
-abbrev pub invariant-loop-i : goal.invariant-loop-i
-invariant-loop-i g l =
+abbrev pub invariant-loop-page : goal.invariant-loop-page
+invariant-loop-page g l =
     let meaning = g.M.Medium in
-    (meaning.rows l.m ≡ erased (meaning.rows l.initial.m) (take l.i l.found.list))
-    × (meaning.count l.m ≡ (meaning.count l.initial.m + l.i) % 2 ^ 32) × (meaning.lender l.m ≡ meaning.lender l.initial.m)
+    (meaning.rows l.m ≡ erased (meaning.rows l.initial.m) (take l.page-index l.pages))
+    × (meaning.count l.m ≡ (meaning.count l.initial.m + l.page-index) % 2 ^ 32) × (meaning.lender l.m ≡ meaning.lender l.initial.m)
