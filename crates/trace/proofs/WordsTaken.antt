@@ -1,50 +1,81 @@
 -- Words that are taken one after another
-use Rattle.std.proofs.Common.{◌≡◌, ℕ, List, [], ◌∷◌, None, Option as CodeOption, sym, refl, ap, ◌∙◌, subst}
-use mathlib.Core.Option.{Option, none, some}
-use Rattle.std.proofs.lemmas.Bool.{ne_eqb}
-use Rattle.rules.specs.Lists.{when_some, told}
+use Rattle.std.proofs.Common.{◌≡◌, ℕ, ◌<◌, pos, ltb, Bor, List, [], ◌∷◌, length, MatchOption, sym, refl, ap, ◌∙◌, inl, inr, arith, w32, to_z, Option, None, Some}
+use Rattle.std.specs.Prelude.{option_map}
+use Rattle.std.proofs.lemmas.Int.{ints}
+use Rattle.std.specs.Bool.{then_some}
+use Rattle.std.proofs.lemmas.Bool.{ne_eqb, cases_lt, lt-ltb, le-ltb}
+use Rattle.rules.specs.Lists.{when_some}
 use Rattle.rules.specs.Trace.{first_as, next, at_end, a_byte, asks_by}
 use Rattle.trace.specs.declared.command.Command.{Command}
-use Rattle.trace.specs.Meaning.{meaning, MarkIn, MarksIn, when_done}
+use Rattle.trace.specs.declared.fields.Fields.{Fields}
+use Rattle.trace.specs.Meaning.{meaning, words_left, read_as, TakesWord}
+use Rattle.trace.proofs.Finding.{some_none, none_past, word_at}
 
 module _ {A B : Type 0} (it : List ℕ → Option A) (ws : List (List ℕ)) (f : A → List (List ℕ) → Option B) where
   -- the word is what it should be, and the words behind it go on
-  pub next_is : (a : A) (rest : List (List ℕ)) → some (a, rest) ≡ first_as it ws → next it ws f ≡ f a rest
-  next_is a rest e = ap (λ o. when_some o none (λ p. f p.0 p.1)) (sym e)
+  pub next_is : (a : A) (rest : List (List ℕ)) → Some (a, rest) ≡ first_as it ws → next it ws f ≡ f a rest
+  next_is a rest e = ap (λ o. when_some o None (λ p. f p.0 p.1)) (sym e)
 
   -- it is not, or there is none
-  pub next_fails : none ≡ first_as it ws → next it ws f ≡ none
-  next_fails e = ap (λ o. when_some o none (λ p. f p.0 p.1)) (sym e)
+  pub next_fails : None ≡ first_as it ws → next it ws f ≡ None
+  next_fails e = ap (λ o. when_some o None (λ p. f p.0 p.1)) (sym e)
+
+-- what a reader makes of the word that is taken
+module _ {T A : Type 0} (means : T → A) (it : List ℕ → Option A) where
+  by_first : (ws : List (List ℕ)) → first_as it ws ≡ when_some (first_as Some ws) None (λ p. when_some (it p.0) None (λ a. Some (a, p.1)))
+  by_first [] = refl
+  by_first (w ∷ ws) = refl
+
+  told_as : (r : Option T) (ws : List (List ℕ)) → when_some (option_map means r) None (λ a. Some (a, ws)) ≡ read_as means r ws
+  told_as None ws = refl
+  told_as (Some t) ws = refl
+
+  pub reads : (before after : Fields) (r : Option T) (P : Bor (List ℕ) → Type 0)
+      → (word : Option (Bor (List ℕ))) × TakesWord before after word × MatchOption word (r ≡ None) (λ w. (option_map means r ≡ it w.now) × P w)
+      → read_as means r (words_left after) ≡ first_as it (words_left before)
+  reads before after r P (None, taken, e) =
+      ap (λ r. read_as means r (words_left after)) e ∙ ap (λ o. when_some o None (λ p. when_some (it p.0) None (λ a. Some (a, p.1)))) taken.0 ∙ sym (by_first (words_left before))
+  reads before after r P (Some w, taken, e) =
+      sym (told_as r (words_left after)) ∙ ap (λ o. when_some o None (λ a. Some (a, words_left after))) e.0
+      ∙ ap (λ o. when_some o None (λ p. when_some (it p.0) None (λ a. Some (a, p.1)))) taken.0 ∙ sym (by_first (words_left before))
+
+  -- the same where the reader promises no more
+  pub reads_so : (before after : Fields) (r : Option T)
+      → (word : Option (Bor (List ℕ))) × TakesWord before after word × MatchOption word (r ≡ None) (λ w. option_map means r ≡ it w.now)
+      → read_as means r (words_left after) ≡ first_as it (words_left before)
+  reads_so before after r (None, taken, e) = reads before after r (λ w. Unit {0}) (None, taken, e)
+  reads_so before after r (Some w, taken, e) = reads before after r (λ w. Unit {0}) (Some w, taken, (e, tt))
+
+-- a number that was read is small
+pub small : (before after : Fields) (n : ℕ) (P : Bor (List ℕ) → Type 0)
+    → (word : Option (Bor (List ℕ))) × TakesWord before after word × MatchOption word (Some n ≡ None) (λ w. P w × (n < 1000000000))
+    → n < 1000000000
+small before after n P (None, taken, e) = absurd (some_none n e)
+small before after n P (Some w, taken, e) = e.1
+
+pub unsigned : (n : ℕ) → n < 1000000000 → to_z w32 n ≡ pos n
+unsigned n h = omega (arith, ints)
 
 -- at the end the command stands
-pub done_means : (ws : List (List ℕ)) (c : Command) (r : CodeOption Command) → r ≡ when_done ws c → told meaning r ≡ at_end ws (meaning c)
-done_means ws c r e = ap (told meaning) e ∙ by ws
-  where
-    by : (ws : List (List ℕ)) → told meaning (when_done ws c) ≡ at_end ws (meaning c)
-    by [] = refl
-    by (w ∷ ws) = refl
-
-pub done_marks : (text : List ℕ) (ws : List (List ℕ)) (c : Command) (r : CodeOption Command) → r ≡ when_done ws c → MarkIn text c → MarksIn text r
-done_marks text ws c r e m = let P : CodeOption Command → Type 0 = λ r. MarksIn text r in subst P (sym e) (by ws)
-  where
-    by : (ws : List (List ℕ)) → MarksIn text (when_done ws c)
-    by [] = m
-    by (w ∷ ws) = tt
-
-pub none_marks : (text : List ℕ) (r : CodeOption Command) → r ≡ None → MarksIn text r
-none_marks text r e = let P : CodeOption Command → Type 0 = λ r. MarksIn text r in subst P (sym e) tt
-
--- text that stays has the same marks
-pub marks_stay : (text after : List ℕ) (r : CodeOption Command) → after ≡ text → MarksIn after r → MarksIn text r
-marks_stay text after r e m = let P : List ℕ → Type 0 = λ t. MarksIn t r in subst P e m
+pub stands : (f : Fields) (c : Command) (r : Option Command) → r ≡ then_some (ltb (length f.text.now) f.place) c → option_map meaning r ≡ at_end (words_left f) (meaning c)
+stands f c r e =
+    ap (option_map meaning) e
+    ∙ elim (cases_lt (length f.text.now) f.place) [
+      | inl h ↦
+          ap (λ b. option_map meaning (then_some b c)) (lt-ltb (length f.text.now) f.place h)
+          ∙ sym (ap (λ ws. at_end ws (meaning c)) (none_past f.place f.text.now h))
+      | inr h ↦
+          ap (λ b. option_map meaning (then_some b c)) (le-ltb (length f.text.now) f.place h)
+          ∙ sym (ap (λ ws. at_end ws (meaning c)) (word_at f.place f.text.now h))
+    ]
 
 -- ---- By the letter
 
-pub letter_is : (ws rest : List (List ℕ)) (letter l : ℕ) → some (letter, rest) ≡ first_as a_byte ws → letter ≡ l → next a_byte ws asks_by ≡ asks_by l rest
+pub letter_is : (ws rest : List (List ℕ)) (letter l : ℕ) → Some (letter, rest) ≡ first_as a_byte ws → letter ≡ l → next a_byte ws asks_by ≡ asks_by l rest
 letter_is ws rest letter l e is = next_is a_byte ws asks_by letter rest e ∙ ap (λ b. asks_by b rest) is
 
 pub no_letter : (ws : List (List ℕ)) (l : ℕ) → (l ≡ 66 → ⊥) → (l ≡ 83 → ⊥) → (l ≡ 90 → ⊥) → (l ≡ 84 → ⊥) → (l ≡ 80 → ⊥) → (l ≡ 78 → ⊥) → (l ≡ 87 → ⊥) → (l ≡ 79 → ⊥) → (l ≡ 82 → ⊥)
-    → (l ≡ 76 → ⊥) → asks_by l ws ≡ none
+    → (l ≡ 76 → ⊥) → asks_by l ws ≡ None
 unfolding asks_by
 no_letter ws l b s z t p n w o r last =
     rw (ne_eqb l 66 b, ne_eqb l 83 s, ne_eqb l 90 z, ne_eqb l 84 t, ne_eqb l 80 p, ne_eqb l 78 n, ne_eqb l 87 w, ne_eqb l 79 o, ne_eqb l 82 r, ne_eqb l 76 last)

@@ -1,9 +1,8 @@
 -- What the commands and the items of the code mean in the rules
-use Rattle.std.specs.Prelude.{◌≡◌, ℕ, List, [], ◌∷◌, length, take, drop, Some, None, Ok, Err, Option as CodeOption, Result}
-use Rattle.std.proofs.Math.Option.{Option, none, some}
-use Rattle.rules.specs.Lists.{told}
+use Rattle.std.specs.Prelude.{◌≡◌, ◌≤◌, ℕ, List, length, take, drop, Ok, Err, IfSome, Result, Option, None, Some, option_map}
+use Rattle.std.specs.Borrow.{Bor}
 use Rattle.rules.specs.Terminal.{set_zero, take_tare, clear_tare, preset_tare}
-use Rattle.rules.specs.Trace.{Kind, flash, sectors, Command as TheCommand, to_begin, to_sample, to_press, to_weigh, to_reopen, to_release, to_print, Reading, asks, refused, lines}
+use Rattle.rules.specs.Trace.{Kind, flash, sectors, Command as TheCommand, to_begin, to_sample, to_press, to_weigh, to_reopen, to_release, to_print, Reading, asks, refused, first_as, lines, trace_limit, next_line}
 use Rattle.trace.specs.declared.command.MediumKind.{MediumKind}
 use Rattle.trace.specs.declared.command.MediumKind.TheVariants.{Flash, Sectors}
 use Rattle.trace.specs.declared.command.Command.{Command}
@@ -52,7 +51,7 @@ MarkIn text (Release day today) = Unit {0}
 MarkIn text (Print number) = Unit {0}
 
 -- so does the mark of a command, if there is one
-abbrev pub MarksIn : (text : List ℕ) → CodeOption Command → Type 0
+abbrev pub MarksIn : (text : List ℕ) → Option Command → Type 0
 MarksIn text None = Unit {0}
 MarksIn text (Some c) = MarkIn text c
 
@@ -60,7 +59,7 @@ abbrev pub AskedIn : (text : List ℕ) → Result Command TraceFault → Type 0
 AskedIn text (Ok c) = MarkIn text c
 AskedIn text (Err f) = Unit {0}
 
-abbrev pub ItemIn : (text : List ℕ) → CodeOption Item → Type 0
+abbrev pub ItemIn : (text : List ℕ) → Option Item → Type 0
 ItemIn text None = Unit {0}
 ItemIn text (Some i) = AskedIn text i.asks
 
@@ -71,19 +70,27 @@ abbrev pub words_left : Fields → List (List ℕ)
 words_left f = words_from f.place f.text.now
 
 -- what was read, with the words behind it
-abbrev pub read_as : {A B : Type 0} → (A → B) → CodeOption A → List (List ℕ) → Option (B × List (List ℕ))
-read_as means None ws = none
-read_as means (Some a) ws = some (means a, ws)
+abbrev pub read_as : {A B : Type 0} → (A → B) → Option A → List (List ℕ) → Option (B × List (List ℕ))
+read_as means None ws = None
+read_as means (Some a) ws = Some (means a, ws)
+
+-- a word is taken of the text, if there is one, and the words behind it are left
+abbrev pub TakesWord : (before after : Fields) → Option (Bor (List ℕ)) → Type 0
+TakesWord before after word =
+    (read_as (λ w. w.now) word (words_left after) ≡ first_as Some (words_left before))
+    × IfSome word (λ w. w.now ≡ take (length w.now) (drop before.place before.text.now))
+    × (after.text.now ≡ before.text.now)
 
 -- how many lines were handed out, and those that are left
 abbrev pub standing : Reader → ℕ × List (List ℕ)
 standing r = (r.lines, lines (drop r.place r.trace.now))
 
 -- an item, with where the reader stands then
-abbrev pub handed : CodeOption Item → Reader → Option (ℕ × Reading) × ℕ × List (List ℕ)
-handed i r = (told item_of i, (standing r).0, (standing r).1)
+abbrev pub handed : Option Item → Reader → Option (ℕ × Reading) × ℕ × List (List ℕ)
+handed i r = (option_map item_of i, (standing r).0, (standing r).1)
 
--- a command, where no word is left
-abbrev pub when_done : {A : Type 0} → List (List ℕ) → A → CodeOption A
-when_done [] c = Some c
-when_done (w ∷ ws) c = None
+-- the next line is handed out, if there is one, and its mark is a part of the trace, which stays
+abbrev pub HandsOut : (before : Reader) → Option Item → (after : Reader) → Type 0
+HandsOut before item after =
+    (handed item after ≡ next_line (standing before).0 (standing before).1) × IfSome item (λ i. i.line ≤ trace_limit) × ItemIn before.trace.now item
+    × (after.trace.now ≡ before.trace.now)

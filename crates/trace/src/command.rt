@@ -1,14 +1,14 @@
 use crate::fault::TraceFault;
 
 /// The kinds of media.
-#[derive(Clone, Copy, PartialEq, Eq)]
+#[derive(Clone, Copy, Debug, PartialEq, Eq)]
 pub enum MediumKind {
     Flash,
     Sectors,
 }
 
 /// What a line asks for.
-#[derive(Clone, Copy)]
+#[derive(Clone, Copy, Debug, PartialEq, Eq)]
 pub enum Command<'a> {
     /// To check the settings and open over a blank medium.
     Begin {
@@ -43,7 +43,7 @@ pub enum Command<'a> {
 }
 
 /// A line of a trace: its number, counted from 1, and what it asks for.
-#[derive(Clone, Copy)]
+#[derive(Clone, Copy, Debug, PartialEq, Eq)]
 pub struct Item<'a> {
     pub line: usize,
     pub asks: Result<Command<'a>, TraceFault>,

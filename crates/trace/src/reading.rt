@@ -1,12 +1,11 @@
 //! Reads a trace line by line.
 
-ghost use Rattle.std.specs.Prelude.{◌≡◌, suc, ◌+◌, ◌<◌, ◌≤◌, length, take, drop, IfSome};
-ghost use Rattle.rules.specs.Lists.{told};
-ghost use Rattle.rules.specs.Trace.{trace_limit, lines as lines_of, command_of, next_line};
-ghost use Rattle.trace.specs.Places.{before as bytes_before};
-ghost use Rattle.trace.specs.Meaning.{meaning, MarksIn, ItemIn, standing, handed};
+ghost use Rattle.std.specs.Prelude.{◌≡◌, ◌≤◌, length, take, IfSome};
+ghost use Rattle.std.specs.Iterator.{at_most};
+ghost use Rattle.rules.specs.Trace.{trace_limit, lines as lines_of, next_line};
+ghost use Rattle.trace.specs.Meaning.{ItemIn, HandsOut, standing, handed};
 
-use crate::command::{Command, Item};
+use crate::command::Item;
 use crate::fault::TraceFault;
 use crate::fields::Fields;
 use crate::reader::Reader;
@@ -15,38 +14,14 @@ use crate::words::find;
 /// So many bytes at most are a trace.
 const LONGEST_TRACE: usize = 32_768;
 
-/// What the line asks for that begins at a place and ends at the next line feed, or where there is none, at the end.
-fn ask<'a>(trace: &'a [u8], start: usize, feed: usize) -> Option<Command<'a>>
-    requires inside { start < length trace.now }
-    requires limit { length trace.now ≤ 32768 }
-    requires feed { feed ≡ start + bytes_before 10 (drop start trace.now) }
-    requires within { feed ≤ length trace.now }
-    ensures command { told meaning result ≡ command_of (take (suc (bytes_before 10 (drop start trace.now))) (drop start trace.now)) }
-    ensures marks { MarksIn trace.now result }
-{
-    if feed >= trace.len() {
-        return None;
-    }
-    let mut fields = Fields {
-        text: &trace[0..feed],
-        place: start,
-    };
-    fields.command()
-}
-
 impl<'a> Reader<'a> {
     /// Over the first 32,768 bytes at most; what follows is not looked at.
     pub fn over(bytes: &'a [u8]) -> Reader<'a>
         ensures trace { result.trace.now ≡ take trace_limit bytes.now }
         ensures standing { standing result ≡ (0, lines_of (take trace_limit bytes.now)) }
     {
-        let trace = if bytes.len() > LONGEST_TRACE {
-            &bytes[0..LONGEST_TRACE]
-        } else {
-            bytes
-        };
         Reader {
-            trace,
+            trace: &bytes[..bytes.len().min(LONGEST_TRACE)],
             place: 0,
             lines: 0,
         }
@@ -59,24 +34,40 @@ impl<'a> Reader<'a> {
         ensures mark { ItemIn self.old.trace.now result }
         ensures trace { self.new.trace.now ≡ self.old.trace.now }
     {
-        let trace = self.trace;
         let start = self.place;
-        if start >= trace.len() {
+        let rest = &self.trace[start..];
+        if rest.is_empty() {
             return None;
         }
-        let feed = find(trace, start, b'\n');
-        let line = self.lines + 1;
-        self.place = if feed < trace.len() { feed + 1 } else { feed };
-        self.lines = line;
-        match ask(trace, start, feed) {
-            Some(command) => Some(Item {
-                line,
-                asks: Ok(command),
-            }),
-            None => Some(Item {
-                line,
-                asks: Err(TraceFault { line }),
-            }),
-        }
+        let asks = match find(rest, b'\n') {
+            Some(size) => {
+                self.place += size + 1;
+                let text = &self.trace[..start + size];
+                Fields { text, place: start }.command()
+            }
+            None => {
+                self.place = self.trace.len();
+                None
+            }
+        };
+        self.lines += 1;
+        let line = self.lines;
+        Some(Item {
+            line,
+            asks: asks.ok_or(TraceFault { line }),
+        })
+    }
+}
+
+impl<'a> Iterator for Reader<'a> {
+    type Item = Item<'a>;
+
+    /// One item for each line, in order.
+    ghost next_gives = { HandsOut };
+
+    ghost remaining = { λ reader. at_most (length (standing reader).1) };
+
+    fn next(&mut self) -> Option<Item<'a>> {
+        self.next_item()
     }
 }

@@ -1,20 +1,27 @@
-use Rattle.std.proofs.Common.{◌-◌, drop, sym, refl, ap}
-use mathlib.Core.Option.{some}
+use Rattle.std.proofs.Common.{◌≡◌, ◌<◌, length, take, drop, IfSome, sym, refl, ap, ◌∙◌, subst, inl, inr, arith, Some}
+use Rattle.std.specs.Option.{unwrap_or}
 use Rattle.rules.specs.Trace.{first_as}
-use Rattle.trace.proofs.Finding.{none_past, word_found, part_is}
+use Rattle.trace.specs.Meaning.{read_as, words_left}
+use Rattle.trace.proofs.Finding.{rest_is, found_or, none_past, word_found, part_is}
 use Rattle.trace.proofs.fields.Fields.word.Goals as goal
 
-pub returns-then-self : goal.returns-then-self
-returns-then-self c =
-    record { word = sym (ap (first_as some) (none_past c.args.self.now.place c.args.self.now.text.now c.if-self.true)); part = tt; same = refl }
+pub returns-in_err-rest : goal.returns-in_err-rest
+returns-in_err-rest c =
+    let self = c.args.self.now in
+    let past : length self.text.now < self.place = elim c.in_err-rest.ensures.lookup.0 [ inl h ↦ h | inr h ↦ omega arith ] in (
+      ap (λ w. read_as (λ w. w.now) w (words_left self)) c.from_residual.ensures ∙ sym (ap (first_as Some) (none_past self.place self.text.now past)),
+      subst (λ w. IfSome w (λ w. w.now ≡ take (length w.now) (drop self.place self.text.now))) (sym c.from_residual.ensures) tt,
+      refl,
+    )
 
 pub returns : goal.returns
 returns c =
-    let place = c.args.self.now.place in
-    let text = c.args.self.now.text.now in
-    let end = c.find-end.result in
-    record {
-      word = sym (ap (first_as some) (word_found place end text c.if-self.false c.find-end.ensures.first));
-      part = part_is (end - place) (drop place text);
-      same = refl;
-    }
+    let self = c.args.self.now in
+    let look = c.in_ok-rest.ensures.lookup.0 in
+    let size = c.unwrap_or-size.result in
+    let rest = c.in_ok-rest.rest.now in
+    let e : rest ≡ drop self.place self.text.now = rest_is self.text.now rest self.place look.2 in (
+      sym (ap (first_as Some) (word_found self.place size self.text.now rest look.0 e (found_or 32 rest size (c.unwrap_or-size.ensures ∙ ap (λ o. unwrap_or o (length rest)) c.find.ensures)))),
+      part_is size rest ∙ ap (take (length (take size rest))) e,
+      refl,
+    )

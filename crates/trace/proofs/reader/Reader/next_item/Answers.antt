@@ -1,47 +1,50 @@
-use Rattle.std.proofs.Common.{◌≡◌, ℕ, ◌+◌, ◌<◌, ◌≤◌, ◌⊎◌, List, length, refl, inl, inr, arith}
-use mathlib.Core.Option.{none, some}
-use Rattle.trace.specs.Meaning.{meaning}
-use Rattle.trace.proofs.LinesRead.{handed_out, none_left}
+use Rattle.std.proofs.Common.{◌≡◌, refl, eqb, ℕ, ◌+◌, ◌<◌, ◌≤◌, ◌-◌, List, length, take, drop, subst, sym, ap, ◌∙◌, arith, Option, None, Some}
+use Rattle.std.specs.Prelude.{option_map}
+use Rattle.std.specs.Option.{ok_or}
+use Rattle.std.proofs.lemmas.List.{length-drop}
+use Rattle.std.specs.List.{position}
+use Rattle.rules.specs.Lists.{when_some}
+use Rattle.rules.specs.Trace.{Command as TheCommand, Reading, asks, refused, lines}
+use Rattle.trace.specs.Meaning.{meaning, reading, MarksIn, AskedIn}
+use Rattle.trace.proofs.Finding.{rest_is, found_at, not_found}
+use Rattle.trace.proofs.WordsRead.{empty, filled}
+use Rattle.trace.proofs.LinesRead.{ended, unended, asked, asked_marks, marks_of_front, none_left}
 use Rattle.trace.proofs.reader.Reader.next_item.Goals as goal
-use Rattle.trace.proofs.reader.Reader.next_item.Goals.{then-feed-trace, else-feed-trace}
+use Rattle.trace.proofs.reader.Reader.next_item.Goals.{in-Some, in-None}
 
-pub returns-then-start-trace : goal.returns-then-start-trace
-returns-then-start-trace c =
+pub returns-then-is_empty-clause-item : goal.returns-then-is_empty-clause-item
+returns-then-is_empty-clause-item c =
     let reader = c.args.self.now in
-    record { item = none_left reader.trace.now reader.lines reader.place c.if-start-trace.true; few = tt; mark = tt; trace = refl }
+    let whole = rest_is reader.trace.now _ reader.place refl in
+    let None : length (drop reader.place reader.trace.now) < 1 = empty _ _ (c.is_empty.ensures ∙ ap (λ r. eqb (length r) 0) whole) c.if-is_empty.true in
+    none_left reader.trace.now reader.lines reader.place (omega (arith, length-drop reader.place reader.trace.now, reader.inside))
 
-pub returns-in-Some : goal.returns-in-Some
-returns-in-Some c =
-    let trace : List ℕ = c.args.self.now.trace.now in
-    let feed : ℕ = c.find-feed.result in
-    let after : ℕ = c.if-feed-trace.self in
-    let way : ((feed < length trace) × (after ≡ feed + 1)) ⊎ ((length trace ≤ feed) × (after ≡ feed)) = elim c.if-feed-trace.branch [
-      | then-feed-trace w ↦ inl (w.if-feed-trace.true, w.self-is)
-      | else-feed-trace w ↦ inr (w.if-feed-trace.false, w.self-is)
-    ] in
-    record {
-      item =
-          handed_out trace c.args.self.now.place feed c.if-start-trace.false c.find-feed.ensures.first c.args.self.now.lines after (some (meaning c.in-Some.command)) way
-          c.in-Some.ensures.command;
-      few = omega (arith, c.args.self.now.counted, c.args.self.now.limit, c.if-start-trace.false);
-      mark = c.in-Some.ensures.marks;
-      trace = refl;
-    }
+pub returns-clause-mark : goal.returns-clause-mark
+returns-clause-mark c =
+    let trace = c.args.self.now.trace.now in
+    let marks : AskedIn trace (ok_or c.match-find.asks _) = asked_marks trace c.match-find.asks _ (elim c.match-find.branch [
+      | in-Some w ↦ subst (MarksIn trace) (sym w.asks-is) (marks_of_front trace _ w.command-asks.result w.command-asks.ensures.marks)
+      | in-None w ↦ subst (MarksIn trace) (sym w.asks-is) tt
+    ]) in
+    subst (AskedIn trace) (sym c.ok_or.ensures.value) marks
 
-pub returns-in-None : goal.returns-in-None
-returns-in-None c =
-    let trace : List ℕ = c.args.self.now.trace.now in
-    let feed : ℕ = c.find-feed.result in
-    let after : ℕ = c.if-feed-trace.self in
-    let way : ((feed < length trace) × (after ≡ feed + 1)) ⊎ ((length trace ≤ feed) × (after ≡ feed)) = elim c.if-feed-trace.branch [
-      | then-feed-trace w ↦ inl (w.if-feed-trace.true, w.self-is)
-      | else-feed-trace w ↦ inr (w.if-feed-trace.false, w.self-is)
-    ] in
-    record {
-      item =
-          handed_out trace c.args.self.now.place feed c.if-start-trace.false c.find-feed.ensures.first c.args.self.now.lines after none way
-          c.in-None.ensures.command;
-      few = omega (arith, c.args.self.now.counted, c.args.self.now.limit, c.if-start-trace.false);
-      mark = tt;
-      trace = refl;
-    }
+pub returns-clause-item : goal.returns-clause-item
+returns-clause-item c =
+    let reader = c.args.self.now in
+    let trace : List ℕ = reader.trace.now in
+    let k : ℕ = reader.lines in
+    let out : Option TheCommand → ℕ → Option (ℕ × Reading) × ℕ × List (List ℕ) = λ o place. (Some (k + 1, when_some o (refused 32 (k + 1)) asks), k + 1, lines (drop place trace)) in
+    let whole : take (length trace - reader.place) (drop reader.place trace) ≡ drop reader.place trace = rest_is trace _ reader.place refl in
+    let inside : 1 ≤ length (drop reader.place trace) = filled _ _ (c.is_empty.ensures ∙ ap (λ r. eqb (length r) 0) whole) c.if-is_empty.false in
+    let place : ℕ = c.match-find.self.1.1.0 in
+    let give : Reading → Option (ℕ × Reading) × ℕ × List (List ℕ) = λ q. (Some (k + 1, q), k + 1, lines (drop place trace)) in
+    ap give (ap reading c.ok_or.ensures.value ∙ asked c.match-find.asks (k + 1))
+    ∙ elim c.match-find.branch [
+      | in-Some w ↦
+          let found = found_at 10 (drop reader.place trace) w.in-Some.size (w.in-Some.ensures ∙ ap (position (λ b. eqb b 10)) whole) in
+          ap (λ o. out (option_map meaning o) c.match-find.self.1.1.0) w.asks-is ∙ ap (λ s. out (option_map meaning w.command-asks.result) s.1.1.0) w.self-is
+          ∙ ended trace reader.place k w.in-Some.size (option_map meaning w.command-asks.result) found.0 found.1 w.command-asks.ensures.command
+      | in-None w ↦
+          ap (λ o. out (option_map meaning o) c.match-find.self.1.1.0) w.asks-is ∙ ap (λ s. out None s.1.1.0) w.self-is
+          ∙ unended trace reader.place k (omega (arith, inside, length-drop reader.place trace)) (not_found 10 (drop reader.place trace) (w.in-None.ensures ∙ ap (position (λ b. eqb b 10)) whole))
+    ]

@@ -1,14 +1,15 @@
-use Rattle.std.proofs.Common.{◌≡◌, ℕ, List, take, sym, ap, ◌∙◌}
-use Rattle.std.proofs.lemmas.List.{take_all}
+use Rattle.std.proofs.Common.{◌≡◌, length, min, take, ap, ◌∙◌, arith}
+use Rattle.std.proofs.lemmas.List.{take_min}
 use Rattle.rules.specs.Trace.{lines}
 use Rattle.trace.proofs.reader.Reader.over.Goals as goal
-use Rattle.trace.proofs.reader.Reader.over.Goals.{then-bytes-gt-LONGEST_TRACE, else-bytes-gt-LONGEST_TRACE}
 
-pub returns : goal.returns
-returns c =
-    let bytes : List ℕ = c.args.bytes.now in
-    let whole : c.if-bytes-gt-LONGEST_TRACE.trace.now ≡ take 32768 bytes = elim c.if-bytes-gt-LONGEST_TRACE.branch [
-      | then-bytes-gt-LONGEST_TRACE w ↦ ap (λ t. t.now) w.trace-is
-      | else-bytes-gt-LONGEST_TRACE w ↦ ap (λ t. t.now) w.trace-is ∙ sym (take_all 32768 bytes w.if-bytes-gt-LONGEST_TRACE.false)
-    ] in
-    record { trace = whole; standing = ap (λ t. (0, lines t)) whole }
+front : (c : goal.After-result-1) → take c.min.result c.args.bytes.now ≡ take 32768 c.args.bytes.now
+front c =
+    let turned : c.min.result ≡ min 32768 (length c.args.bytes.now) = omega (arith, c.min.ensures) in
+    ap (λ n. take n c.args.bytes.now) turned ∙ take_min 32768 c.args.bytes.now
+
+pub returns-clause-trace : goal.returns-clause-trace
+returns-clause-trace c = front c
+
+pub returns-clause-standing : goal.returns-clause-standing
+returns-clause-standing c = ap (λ t. (0, lines t)) (front c)
