@@ -3,4 +3,5 @@ pub mod FaultsOf
 pub mod StatesOf
 pub mod Tares
 pub mod Meaning
+pub mod Entries
 pub mod Answers

@@ -1,5 +1,5 @@
 -- The state of an indicator, and what moves it
-use Rattle.std.proofs.Math.Option.{Option, none, some}
+use Rattle.std.specs.Prelude.{Option, None, Some}
 use Rattle.rules.specs.Records.{Record}
 use Rattle.rules.specs.Terminal.{State as TheState, waiting, ready, pending}
 use Rattle.records.specs.WeighingsOf.{weighing_of}
@@ -30,9 +30,9 @@ state_after (Pending v) Voided = ready
 
 -- the record that is pending
 abbrev pub pending_in : TheState → Option Record
-pending_in waiting = none
-pending_in ready = none
-pending_in (pending r) = some r
+pending_in waiting = None
+pending_in ready = None
+pending_in (pending r) = Some r
 
 -- the state after a store of what is pending
 abbrev pub after_store : TheState → TheState

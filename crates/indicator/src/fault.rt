@@ -1,8 +1,8 @@
 ghost use Rattle.std.specs.Prelude.{◌≡◌};
-ghost use Rattle.rules.specs.Faults.{layer_of};
+ghost use Rattle.indicator.specs.declared.fault.IndicatorFault.TheVariants.{Cell};
 ghost use Rattle.indicator.specs.FaultsOf.{cell_number, fault_number, fault_place};
 
-use rules::Layer;
+use rules::Fault;
 
 /// Why a load of the cell is refused.
 #[derive(Clone, Copy, PartialEq, Eq)]
@@ -42,22 +42,39 @@ pub enum IndicatorFault {
     NoNet,
 }
 
-impl CellFault {
-    /// The number of the fault.
-    pub fn number(self) -> u8
-        ensures { result ≡ cell_number self }
-    {
+impl Fault for CellFault {
+    ghost number_of = { cell_number };
+
+    ghost place_of = { λ _. 0 };
+
+    fn number(self) -> u8 {
         match self {
             CellFault::OutOfRange => 7,
         }
     }
+
+    fn place(self) -> usize {
+        match self {
+            CellFault::OutOfRange => 0,
+        }
+    }
 }
 
-impl IndicatorFault {
-    /// The number of the fault; one from below keeps its own.
-    pub fn number(self) -> u8
-        ensures { result ≡ fault_number self }
-    {
+/// A fault of the cell is carried whole.
+impl From<CellFault> for IndicatorFault {
+    ghost from_gives = { λ fault carried. carried ≡ Cell fault };
+
+    fn from(fault: CellFault) -> IndicatorFault {
+        IndicatorFault::Cell(fault)
+    }
+}
+
+impl Fault for IndicatorFault {
+    ghost number_of = { fault_number };
+
+    ghost place_of = { fault_place };
+
+    fn number(self) -> u8 {
         match self {
             IndicatorFault::Cell(fault) => fault.number(),
             IndicatorFault::Pending => 8,
@@ -76,16 +93,7 @@ impl IndicatorFault {
     }
 
     /// No rule names a place for these faults, so it is 0.
-    pub fn place(self) -> usize
-        ensures { result ≡ fault_place self }
-    {
+    fn place(self) -> usize {
         0
-    }
-
-    /// The layer that the fault belongs to, by its number.
-    pub fn layer(self) -> Layer
-        ensures { result ≡ layer_of (fault_number self) }
-    {
-        Layer::of(self.number())
     }
 }

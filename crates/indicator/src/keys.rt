@@ -1,13 +1,12 @@
 //! Opening, samples, zero and the tare keys.
 
-ghost use Rattle.std.specs.Prelude.{◌≡◌};
+ghost use Rattle.std.specs.Prelude.{◌≡◌, ◌≤◌, IfOk, unsigned_abs, option_map};
+ghost use Rattle.rules.specs.Loads.{mean};
 ghost use Rattle.rules.specs.Terminal.{sample as a_sample, key as a_key, set_zero, clear_tare, preset_tare, is_empty as is_empty_by_rule, fresh, with_state, voided};
-ghost use Rattle.rules.specs.Lists.{told};
 ghost use Rattle.records.specs.WeighingsOf.{weighing_of};
 ghost use Rattle.loads.specs.SettingsOf.{settings_of};
-ghost use Rattle.indicator.specs.Meaning.{meaning};
 ghost use Rattle.indicator.specs.StatesOf.{pending_in, after_store};
-ghost use Rattle.indicator.specs.Answers.{answer, ActsOn, first_of, untared_refusals};
+ghost use Rattle.indicator.specs.Answers.{answer, ActsOn, first_of, idle_refusals, untared_refusals, settled_refusals, tare_refusals};
 
 use crate::body::Indicator;
 use crate::fault::{CellFault, IndicatorFault};
@@ -18,7 +17,7 @@ use records::{Tare, Weighing, Weight};
 impl Indicator {
     /// As an opening leaves it: waiting, with zero 0, no tare and an empty window.
     pub fn open(settings: Settings) -> Indicator
-        ensures { meaning result ≡ fresh (settings_of settings) }
+        ensures { result ≡ fresh (settings_of settings) }
     {
         Indicator {
             settings,
@@ -31,7 +30,7 @@ impl Indicator {
 
     /// Whether the platform is empty under a load: less the zero it rounds to under the smallest load.
     fn is_empty(&self, load: Tenths) -> bool
-        ensures { result ≡ is_empty_by_rule (meaning self.now) load.0 }
+        ensures { result ≡ is_empty_by_rule self.now load.0 }
     {
         load.above(self.zero).0 < i32::from(self.settings.min())
     }
@@ -39,11 +38,11 @@ impl Indicator {
     /// Takes a load of the cell. The first from an empty platform makes a waiting indicator ready and empties the window;
     /// every other one joins the window. A load out of range is refused and empties the window.
     pub fn sample(&mut self, load: Tenths) -> Result<(), IndicatorFault>
-        ensures { ActsOn (a_sample load.0) (meaning self.old) (answer result) (meaning self.new) }
+        ensures { ActsOn (a_sample load.0) self.old (answer result) self.new }
     {
-        if load.0 < -200_000 || load.0 > 200_000 {
+        if !(-200_000..=200_000).contains(&load.0) {
             self.window.clear();
-            return Err(IndicatorFault::Cell(CellFault::OutOfRange));
+            return Err(CellFault::OutOfRange.into());
         }
         match (self.state, self.is_empty(load)) {
             (State::Waiting, true) => {
@@ -55,27 +54,53 @@ impl Indicator {
         Ok(())
     }
 
-    /// Refuses while a weighing is pending, and while a tare is set.
-    pub(crate) fn check_untared(&self) -> Result<(), IndicatorFault>
-        ensures { answer result ≡ first_of (untared_refusals (meaning self.now)) }
+    /// Refuses while a weighing is pending.
+    pub(crate) fn check_idle(&self) -> Result<(), IndicatorFault>
+        ensures { answer result ≡ first_of (idle_refusals self.now) }
     {
-        if let State::Pending(_) = self.state {
+        if matches!(self.state, State::Pending(_)) {
             return Err(IndicatorFault::Pending);
         }
-        if let Tare::Weighed(_) | Tare::Preset(_) = self.tare {
+        Ok(())
+    }
+
+    /// Refuses while a weighing is pending, and while a tare is set.
+    pub(crate) fn check_untared(&self) -> Result<(), IndicatorFault>
+        ensures { answer result ≡ first_of (untared_refusals self.now) }
+    {
+        self.check_idle()?;
+        if self.tare != Tare::None {
             return Err(IndicatorFault::Tared);
         }
         Ok(())
     }
 
+    /// The mean of a full and stable window.
+    pub(crate) fn settled(&self) -> Result<Tenths, IndicatorFault>
+        ensures says { answer result ≡ first_of (settled_refusals self.now) }
+        ensures mean { IfOk result (λ m. m.0 ≡ mean self.now.window) }
+    {
+        self.window.settled().ok_or(IndicatorFault::Unsettled)
+    }
+
+    /// The weight of a tare; refuses one under 1 or over the largest load.
+    pub(crate) fn tare_weight(&self, value: Intervals) -> Result<Weight, IndicatorFault>
+        ensures says { answer result ≡ first_of (tare_refusals self.now value.0) }
+        ensures value { IfOk result (λ w. w.0 ≡ unsigned_abs value.0) }
+        ensures bounds { IfOk result (λ w. (1 ≤ w.0) × (w.0 ≤ self.now.settings.max)) }
+    {
+        if !(1..=i32::from(self.settings.max())).contains(&value.0) {
+            return Err(IndicatorFault::TareRange);
+        }
+        Ok(Weight(value.0 as u16))
+    }
+
     /// The mean of a full and stable window becomes the zero, if it is within 2 % of the largest load.
     pub fn set_zero(&mut self) -> Result<(), IndicatorFault>
-        ensures { ActsOn (a_key set_zero) (meaning self.old) (answer result) (meaning self.new) }
+        ensures { ActsOn (a_key set_zero) self.old (answer result) self.new }
     {
         self.check_untared()?;
-        let Some(mean) = self.window.settled() else {
-            return Err(IndicatorFault::Unsettled);
-        };
+        let mean = self.settled()?;
         if 5 * i64::from(mean.0).abs() > i64::from(self.settings.max()) {
             return Err(IndicatorFault::ZeroRange);
         }
@@ -85,30 +110,25 @@ impl Indicator {
 
     /// Sets a tare by hand.
     pub fn preset_tare(&mut self, value: Intervals) -> Result<(), IndicatorFault>
-        ensures { ActsOn (a_key (preset_tare value.0)) (meaning self.old) (answer result) (meaning self.new) }
+        ensures { ActsOn (a_key (preset_tare value.0)) self.old (answer result) self.new }
     {
         self.check_untared()?;
-        if value.0 < 1 || value.0 > i32::from(self.settings.max()) {
-            return Err(IndicatorFault::TareRange);
-        }
-        self.tare = Tare::Preset(Weight(value.0 as u16));
+        self.tare = Tare::Preset(self.tare_weight(value)?);
         Ok(())
     }
 
     /// Unsets the tare.
     pub fn clear_tare(&mut self) -> Result<(), IndicatorFault>
-        ensures { ActsOn (a_key clear_tare) (meaning self.old) (answer result) (meaning self.new) }
+        ensures { ActsOn (a_key clear_tare) self.old (answer result) self.new }
     {
-        if let State::Pending(_) = self.state {
-            return Err(IndicatorFault::Pending);
-        }
+        self.check_idle()?;
         self.tare = Tare::None;
         Ok(())
     }
 
     /// The weighing that is pending, if one is.
     pub fn pending(&self) -> Option<Weighing>
-        ensures { told weighing_of result ≡ pending_in (meaning self.now).state }
+        ensures { option_map weighing_of result ≡ pending_in self.now.state }
     {
         match self.state {
             State::Pending(weighing) => Some(weighing),
@@ -118,14 +138,14 @@ impl Indicator {
 
     /// The weighing that was pending is stored.
     pub fn stored(&mut self)
-        ensures { meaning self.new ≡ with_state (meaning self.old) (after_store (meaning self.old).state) }
+        ensures { self.new ≡ with_state self.old (after_store self.old.state) }
     {
         self.state = self.state.after(Event::Stored);
     }
 
     /// The weighing that was pending is given up.
     pub fn void(&mut self)
-        ensures { meaning self.new ≡ with_state (meaning self.old) (voided (meaning self.old).state) }
+        ensures { self.new ≡ with_state self.old (voided self.old.state) }
     {
         self.state = self.state.after(Event::Voided);
     }

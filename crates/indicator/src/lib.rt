@@ -3,10 +3,12 @@
 #![tactic(auto)]
 
 mod body;
+mod entered;
 mod fault;
 mod keys;
 mod state;
 mod weighing;
 
 pub use body::Indicator;
+pub use entered::Entered;
 pub use fault::{CellFault, IndicatorFault};

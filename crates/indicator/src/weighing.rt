@@ -1,40 +1,21 @@
 //! Weighing, and the tare that is weighed.
 
-ghost use Rattle.std.specs.Prelude.{◌≡◌, ◌≤◌, pos, negsuc, ◌-ℤ◌, ◌≤ℤ◌, Ok, Err};
-ghost use Rattle.rules.specs.Records.{typed_mark};
+ghost use Rattle.std.specs.Prelude.{◌≡◌, pos, negsuc, ◌-ℤ◌, ◌≤ℤ◌, IfOk, unsigned_abs};
 ghost use Rattle.rules.specs.Terminal.{weigh as a_weigh, key as a_key, take_tare, gross as gross_by_rule, tare_value};
-ghost use Rattle.records.specs.Meaning.{codes_of};
-ghost use Rattle.indicator.specs.Meaning.{meaning};
-ghost use Rattle.indicator.specs.Answers.{answer, ActsOn, entered, first_of, entry_refusals, ready_refusals, settled_refusals, load_refusals};
+ghost use Rattle.indicator.specs.Answers.{answer, ActsOn, first_of, ready_refusals, settled_refusals, load_refusals};
+ghost use Rattle.indicator.specs.Entries.{entries_of};
 
 use crate::body::Indicator;
+use crate::entered::Entered;
 use crate::fault::IndicatorFault;
 use crate::state::{Event, State};
 use loads::Intervals;
-use records::{Mark, Record, Tare, Weighing, Weight};
-
-/// The mark of what is entered with a weighing; refuses a minute, a mark or a unit price that no record has.
-fn check_entries(minute: u32, typed: &[u8], unit_price: u32) -> Result<Mark, IndicatorFault>
-    ensures says { answer result ≡ first_of (entry_refusals minute typed.now unit_price) }
-    ensures mark { elim result [ Ok m ↦ codes_of m ≡ typed_mark typed.now | Err _ ↦ Unit {0} ] }
-    ensures minute { elim result [ Ok _ ↦ minute ≤ 1439 | Err _ ↦ Unit {0} ] }
-{
-    if minute > 1439 {
-        return Err(IndicatorFault::Minute);
-    }
-    let Ok(mark) = Mark::typed(typed) else {
-        return Err(IndicatorFault::Mark);
-    };
-    if unit_price > 1_000_000 {
-        return Err(IndicatorFault::UnitPrice);
-    }
-    Ok(mark)
-}
+use records::{Record, Tare, Weighing, Weight};
 
 impl Indicator {
     /// Refuses while a weighing is pending, and until the platform was empty.
     fn check_ready(&self) -> Result<(), IndicatorFault>
-        ensures { answer result ≡ first_of (ready_refusals (meaning self.now)) }
+        ensures { answer result ≡ first_of (ready_refusals self.now) }
     {
         match self.state {
             State::Pending(_) => Err(IndicatorFault::Pending),
@@ -45,42 +26,35 @@ impl Indicator {
 
     /// The gross weight of a full and stable window.
     fn gross(&self) -> Result<Intervals, IndicatorFault>
-        ensures says { answer result ≡ first_of (settled_refusals (meaning self.now)) }
-        ensures gross { elim result [ Ok g ↦ g.0 ≡ gross_by_rule (meaning self.now) | Err _ ↦ Unit {0} ] }
-        ensures bounds { elim result [ Ok g ↦ (negsuc 429496729 ≤ℤ g.0) × (g.0 ≤ℤ pos 429496730) | Err _ ↦ Unit {0} ] }
+        ensures says { answer result ≡ first_of (settled_refusals self.now) }
+        ensures gross { IfOk result (λ g. g.0 ≡ gross_by_rule self.now) }
+        ensures bounds { IfOk result (λ g. (negsuc 429496729 ≤ℤ g.0) × (g.0 ≤ℤ pos 429496730)) }
     {
-        match self.window.settled() {
-            Some(mean) => Ok(mean.above(self.zero)),
-            None => Err(IndicatorFault::Unsettled),
-        }
+        Ok(self.settled()?.above(self.zero))
     }
 
     /// The gross weight of a full and stable window becomes the tare.
     pub fn take_tare(&mut self) -> Result<(), IndicatorFault>
-        ensures { ActsOn (a_key take_tare) (meaning self.old) (answer result) (meaning self.new) }
+        ensures { ActsOn (a_key take_tare) self.old (answer result) self.new }
     {
         self.check_untared()?;
         let gross = self.gross()?;
-        if gross.0 < 1 || gross.0 > i32::from(self.settings.max()) {
-            return Err(IndicatorFault::TareRange);
-        }
-        self.tare = Tare::Weighed(Weight(gross.0 as u16));
+        self.tare = Tare::Weighed(self.tare_weight(gross)?);
         Ok(())
     }
 
     /// The net weight of a gross weight.
     fn net(&self, gross: Intervals) -> Intervals
         requires { (negsuc 429496729 ≤ℤ gross.0) × (gross.0 ≤ℤ pos 429496730) }
-        ensures { result.0 ≡ gross.0 -ℤ pos (tare_value (meaning self.now).tare) }
+        ensures { result.0 ≡ gross.0 -ℤ pos (tare_value self.now.tare) }
     {
         Intervals(gross.0 - i32::from(self.tare.weight().0))
     }
 
     /// The gross weight; refuses one under the smallest load or too far over the largest, and a net weight under 1.
-    fn load(&self) -> Result<Intervals, IndicatorFault>
-        ensures says { answer result ≡ first_of (load_refusals (meaning self.now)) }
-        ensures gross { elim result [ Ok g ↦ g.0 ≡ gross_by_rule (meaning self.now) | Err _ ↦ Unit {0} ] }
-        ensures bounds { elim result [ Ok g ↦ (pos 1 ≤ℤ g.0) × (g.0 ≤ℤ pos 10009) | Err _ ↦ Unit {0} ] }
+    fn load(&self) -> Result<Weight, IndicatorFault>
+        ensures says { answer result ≡ first_of (load_refusals self.now) }
+        ensures gross { IfOk result (λ w. w.0 ≡ unsigned_abs (gross_by_rule self.now)) }
     {
         let gross = self.gross()?;
         if gross.0 < i32::from(self.settings.min()) {
@@ -92,38 +66,27 @@ impl Indicator {
         if self.net(gross).0 < 1 {
             return Err(IndicatorFault::NoNet);
         }
-        Ok(gross)
+        Ok(Weight(gross.0 as u16))
     }
 
     /// Weighs the lorry on the platform, which makes its weighing pending.
-    pub fn weigh(
-        &mut self,
-        day: u16,
-        minute: u32,
-        typed: &[u8],
-        unit_price: u32,
-    ) -> Result<(), IndicatorFault>
-        ensures { ActsOn (a_weigh (entered day minute typed.now unit_price)) (meaning self.old) (answer result) (meaning self.new) }
+    pub fn weigh(&mut self, entered: Entered<'_>) -> Result<(), IndicatorFault>
+        ensures { ActsOn (a_weigh (entries_of entered.entry)) self.old (answer result) self.new }
     {
-        let mark = check_entries(minute, typed, unit_price)?;
+        let mark = entered.check()?;
         self.check_ready()?;
         let gross = self.load()?;
-        let weighing = Weighing::of(Record {
+        let weighing = Weighing::try_from(Record {
             number: 0,
-            day,
-            minute: minute as u16,
+            day: entered.day,
+            minute: entered.minute as u16,
             interval: self.settings.interval(),
-            gross: Weight(gross.0 as u16),
+            gross,
             tare: self.tare,
-            unit_price,
+            unit_price: entered.unit_price,
             mark,
         });
-        match weighing {
-            Ok(weighing) => {
-                self.state = self.state.after(Event::Weighed(weighing));
-                Ok(())
-            }
-            Err(_) => unreachable(),
-        }
+        self.state = self.state.after(Event::Weighed(weighing.unwrap()));
+        Ok(())
     }
 }

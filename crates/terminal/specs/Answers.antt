@@ -1,7 +1,6 @@
 -- What the calls that use the memory answer, by the numbers of the rules
-use Rattle.std.specs.Prelude.{ℕ, Bool, false, List, Ok, Err, Option as CodeOption, Result, nat_lt}
-use Rattle.std.proofs.Math.Option.{Option}
-use Rattle.rules.specs.Lists.{when_some, told}
+use Rattle.std.specs.Prelude.{ℕ, Bool, false, List, Ok, Err, Result, nat_lt, Option}
+use Rattle.rules.specs.Lists.{when_some}
 use Rattle.rules.specs.Records.{Record}
 use Rattle.rules.specs.Terminal.{Releasing, Answer, done, gives, prints, refuses}
 use Rattle.terminal.specs.declared.claim.Claim.{Claim}
@@ -31,8 +30,8 @@ release_answer (Ok n) = gives n
 release_answer (Err f) = refusal f
 
 -- what a release is asked for
-abbrev pub asked : (day today : ℕ) → CodeOption ℕ → Releasing
-asked day today keep = record { day = day; today = today; keep = told (λ days. days) keep }
+abbrev pub asked : (day today : ℕ) → Option ℕ → Releasing
+asked day today keep = record { day = day; today = today; keep = keep }
 
 -- the day is before the newest record's
 abbrev pub is_before : (day : ℕ) → Option (ℕ × Record) → Bool

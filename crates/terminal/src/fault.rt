@@ -1,12 +1,12 @@
 ghost use Rattle.std.specs.Prelude.{◌≡◌};
-ghost use Rattle.rules.specs.Faults.{layer_of};
+ghost use Rattle.terminal.specs.declared.fault.StoreFault.TheVariants.{Memory};
 ghost use Rattle.terminal.specs.FaultsOf.{fault_number, fault_place};
 
 use memory::MemoryFault;
-use rules::Layer;
+use rules::Fault;
 
 /// Why a store, a print, a verify or a release is refused.
-#[derive(Clone, Copy)]
+#[derive(Clone, Copy, PartialEq, Eq)]
 pub enum StoreFault {
     /// Nothing is pending.
     NothingPending,
@@ -26,11 +26,12 @@ pub enum StoreFault {
     TooYoung,
 }
 
-impl StoreFault {
-    /// The number of the fault; one from below keeps its own.
-    pub fn number(self) -> u8
-        ensures { result ≡ fault_number self }
-    {
+impl Fault for StoreFault {
+    ghost number_of = { fault_number };
+
+    ghost place_of = { fault_place };
+
+    fn number(self) -> u8 {
         match self {
             StoreFault::NothingPending => 20,
             StoreFault::Memory(fault) => fault.number(),
@@ -44,20 +45,20 @@ impl StoreFault {
     }
 
     /// The byte at which a line differs, the place in a fault from below, or 0.
-    pub fn place(self) -> usize
-        ensures { result ≡ fault_place self }
-    {
+    fn place(self) -> usize {
         match self {
             StoreFault::Memory(fault) => fault.place(),
             StoreFault::Differs(place) => place,
             _ => 0,
         }
     }
+}
 
-    /// The layer that the fault belongs to, by its number.
-    pub fn layer(self) -> Layer
-        ensures { result ≡ layer_of (fault_number self) }
-    {
-        Layer::of(self.number())
+/// A fault of the memory is carried whole.
+impl From<MemoryFault> for StoreFault {
+    ghost from_gives = { λ fault carried. carried ≡ Memory fault };
+
+    fn from(fault: MemoryFault) -> StoreFault {
+        StoreFault::Memory(fault)
     }
 }

@@ -1,11 +1,10 @@
-ghost use Rattle.std.specs.Prelude.{◌≡◌};
-ghost use Rattle.std.proofs.Math.Option.{Option};
+ghost use Rattle.std.specs.Prelude.{◌≡◌, Option};
 ghost use Rattle.rules.specs.Settings.{Passed};
 ghost use Rattle.rules.specs.Terminal.{Indicator as TheIndicator, opening, done, acts};
 ghost use Rattle.rules.specs.Promise.{KeepsRecords};
 ghost use Rattle.rules.specs.Laws.{VerifiesWhatIsFound, PrintsWhatIsFound, FirstStoreIsAccepted};
 ghost use Rattle.loads.specs.SettingsOf.{settings_of};
-ghost use Rattle.terminal.specs.Worlds.{world, world_with};
+ghost use Rattle.terminal.specs.Worlds.{world, world_with, ActsAlone};
 
 use crate::body::Terminal;
 use indicator::Indicator;
@@ -40,9 +39,8 @@ impl<M: Medium> Terminal<M> {
 
     /// Opens again over the same medium, as it then is: all but the medium is lost, a weighing that is pending included.
     pub fn reopen(&mut self, settings: Settings)
-        ensures opens { acts (opening (settings_of settings)) (world M.rows M.count self.old) ≡ (done, world M.rows M.count self.new) }
+        ensures opens { ActsAlone M.rows M.count (opening (settings_of settings)) self.old done self.new }
         ensures passed { Passed (settings_of settings) }
-        ensures medium { self.new.medium ≡ self.old.medium }
     {
         self.indicator = Indicator::open(settings);
     }

@@ -1,44 +1,44 @@
-use Rattle.std.proofs.Common.{[], ◌++◌, sym, ap, ◌∙◌, arith, rules}
-use Rattle.std.proofs.lemmas.Int.{to_z-of_z}
+use Rattle.std.proofs.Common.{◌≡◌, [], ◌++◌, sym, ap, subst, ◌∙◌, arith, rules}
 use Rattle.rules.specs.Settings.{Passed}
 use Rattle.rules.specs.Terminal.{done, pending, with_state, weigh_refusals}
-use Rattle.rules.proofs.Refusals.{NoneHolds}
-use Rattle.rules.proofs.Weighings.{weighed_lawful}
-use Rattle.loads.specs.SettingsOf.{settings_of}
+use Rattle.rules.proofs.Refusals.{passes_unless}
+use Rattle.rules.proofs.Weighings.{TareFits, weighed_lawful}
+use Rattle.records.specs.WeighingsOf.{weighing_says}
 use Rattle.indicator.specs.Meaning.{meaning}
-use Rattle.indicator.specs.Answers.{powered, entered, entry_refusals, ready_refusals, load_refusals}
-use Rattle.indicator.proofs.Tables.{past, stopped, none_hold}
-use Rattle.indicator.proofs.Weighed.{tare_fits, same_record, not_unlawful, is_made, becomes_pending}
+use Rattle.indicator.specs.StatesOf.{state_of}
+use Rattle.indicator.specs.Answers.{powered, first_of, entry_refusals, ready_refusals, load_refusals}
+use Rattle.indicator.specs.Entries.{entries_of}
+use Rattle.indicator.proofs.Tables.{past, stopped}
+use Rattle.indicator.proofs.Weighed.{tare_fits, same_record, is_made, is_asked, nothing_refuses, becomes_pending}
 use Rattle.indicator.proofs.body.Indicator.weigh.Goals as goal
 
 pub returns-in_err-gross : goal.returns-in_err-gross
 returns-in_err-gross c = λ rows writes.
-    let i = meaning c.args.self.now in
+    let i = c.args.self.now in
     let w = powered rows writes i in
-    past (entry_refusals c.args.minute c.args.typed.now c.args.unit_price) (ready_refusals i ++ load_refusals i) w _ (sym c.in_ok-mark.ensures.says)
+    past (entry_refusals (entries_of c.args.entered)) (ready_refusals i ++ load_refusals i) w _ (sym c.in_ok-mark.ensures.says)
     ∙ past (ready_refusals i) (load_refusals i) w _ (sym c.in_ok-check_ready.ensures)
     ∙ stopped (load_refusals i) [] w _ _ _ (sym c.in_err-gross.ensures.says) ∙ search rules
 
+pub unwrap-requires : goal.unwrap-requires
+unwrap-requires c =
+    let i = c.args.self.now in
+    let e = entries_of c.args.entered in
+    let passed : Passed i.settings = rw (← c.self.view_is) (search rules) in
+    let fits : TareFits i.settings.max i.tare = rw (← c.self.view_is) (tare_fits c.self.inside.tare _ c.self.invariant.0 c.self.invariant.1) in
+    let tests = nothing_refuses i e c.in_ok-mark.ensures.says c.in_ok-check_ready.ensures c.in_ok-gross.ensures.says in
+    let ok = weighed_lawful i e passed fits (omega arith) tests 1 (omega arith) (omega arith) in
+    is_made _ _ _ c.try_from-weighing.ensures
+    (same_record (meaning c.self.inside) i e _ _ _ c.interval.ensures c.in_ok-gross.ensures.gross c.in_ok-mark.ensures.mark c.self.view_is) ok
+
 pub returns : goal.returns
 returns c = λ rows writes.
-    let i = meaning c.args.self.now in
-    let w = powered rows writes i in
-    past (entry_refusals c.args.minute c.args.typed.now c.args.unit_price) (ready_refusals i ++ load_refusals i) w _ (sym c.in_ok-mark.ensures.says)
-    ∙ past (ready_refusals i) (load_refusals i) w _ (sym c.in_ok-check_ready.ensures)
-    ∙ past (load_refusals i) [] w _ (sym c.in_ok-gross.ensures.says)
-    ∙ ap (λ s. (done, powered rows writes (with_state i s))) (sym (c.after-self.ensures ∙ becomes_pending c.args.self.now.state c.in-Ok.weighing (sym c.in_ok-check_ready.ensures)
-    ∙ ap pending (is_made _ _ _ c.in-Ok.ensures
-    ∙ same_record _ _ _ _ _ _ _ _ _ _ _ c.interval.ensures (grind (arith, to_z-of_z)) c.in_ok-mark.ensures.mark)))
-
-pub unreachable-requires : goal.unreachable-requires
-unreachable-requires c =
-    let self = c.args.self.now in
-    let i = meaning self in
-    let e = entered c.args.day c.args.minute c.args.typed.now c.args.unit_price in
-    let passed : Passed (settings_of self.settings) = search rules in
-    let tests : NoneHolds (weigh_refusals i e) =
-    none_hold (entry_refusals c.args.minute c.args.typed.now c.args.unit_price) (ready_refusals i ++ load_refusals i) (sym c.in_ok-mark.ensures.says)
-    (none_hold (ready_refusals i) (load_refusals i) (sym c.in_ok-check_ready.ensures)
-    (none_hold (load_refusals i) [] (sym c.in_ok-gross.ensures.says) tt)) in
-    let ok = weighed_lawful i e passed (tare_fits self.tare _ self.tared self.within) (omega arith) tests 1 (omega arith) (omega arith) in
-    not_unlawful _ _ c.in-Err.ensures (same_record _ _ _ _ _ _ _ _ _ _ _ c.interval.ensures (grind (arith, to_z-of_z)) c.in_ok-mark.ensures.mark) ok
+    let i = c.args.self.now in
+    let e = entries_of c.args.entered in
+    let tests = nothing_refuses i e c.in_ok-mark.ensures.says c.in_ok-check_ready.ensures c.in_ok-gross.ensures.says in
+    let ready = subst (λ k. done ≡ first_of (ready_refusals k)) (sym c.self.view_is) c.in_ok-check_ready.ensures in
+    let made = is_asked _ _ _ (ap weighing_says (sym c.unwrap.ensures) ∙ c.try_from-weighing.ensures)
+    ∙ same_record (meaning c.self.inside) i e _ _ _ c.interval.ensures c.in_ok-gross.ensures.gross c.in_ok-mark.ensures.mark c.self.view_is in
+    let after = c.after-self-inside.ensures ∙ becomes_pending c.self.inside.state c.unwrap.result (sym ready) ∙ ap pending made in
+    passes_unless (weigh_refusals i e) (powered rows writes i) _ tests ∙ ap (λ s. (done, powered rows writes (with_state i s))) (sym after)
+    ∙ ap (λ k. (done, powered rows writes (with_state k (state_of c.after-self-inside.result)))) (sym c.self.view_is)
