@@ -4,135 +4,150 @@
 
 #![tactic(auto)]
 
-use anyhow::anyhow;
-use loads::{Interval, Settings, Tenths};
-use media::{Flash, Medium, Sectors, check_bytes};
-use records::{Mark, Record, Tare, Weight};
+use anyhow::{Context, Error, anyhow};
+use indicator::Entered;
+use loads::{Settings, Tenths};
+use media::{Cells, Flash, Medium, Sectors};
+use rules::Fault;
 use std::env;
+use std::str::FromStr;
 use terminal::{Claim, StoreFault, Terminal};
+use tours::example;
 
-/// The record with this number.
-fn earlier(mark: Mark, number: u32) -> Record {
-    Record {
-        number,
-        day: 9000,
-        minute: 615,
-        interval: Interval::Twenty,
-        gross: Weight(1243),
-        tare: Tare::Preset(Weight(426)),
-        unit_price: 18555,
-        mark,
+/// The call that is made, or none.
+#[derive(Clone, Copy, PartialEq, Eq)]
+enum Call {
+    Store,
+    Print,
+    Verify,
+    Release,
+    Nothing,
+}
+
+impl FromStr for Call {
+    type Err = Error;
+
+    fn from_str(word: &str) -> Result<Call, Error> {
+        match word {
+            "store" => Ok(Call::Store),
+            "print" => Ok(Call::Print),
+            "verify" => Ok(Call::Verify),
+            "release" => Ok(Call::Release),
+            "none" => Ok(Call::Nothing),
+            _ => Err(anyhow!("no such call: {word}")),
+        }
     }
 }
+
+/// The kind of the medium.
+#[derive(Clone, Copy)]
+enum Kind {
+    Flash,
+    Sectors,
+}
+
+impl FromStr for Kind {
+    type Err = Error;
+
+    fn from_str(word: &str) -> Result<Kind, Error> {
+        match word {
+            "flash" => Ok(Kind::Flash),
+            "sectors" => Ok(Kind::Sectors),
+            _ => Err(anyhow!("no such kind: {word}")),
+        }
+    }
+}
+
+/// The day of the records that are there already.
+const EARLIER: u16 = 9000;
 
 /// Programs records into all rows but the last two.
-fn fill<M: Medium>(medium: &mut M, mark: Mark) {
-    let rows = medium.size() * 16;
-    let mut number = 1u32;
-    for row in 2..rows {
-        if let Ok(packed) = earlier(mark, number).pack() {
-            let _ = medium.program(row - 2, &packed);
+fn fill<M: Medium>(medium: &mut M) {
+    let rows = medium.size() * 16 - 2;
+    for (row, number) in (0..rows).zip(1..=u32::MAX) {
+        if let Ok(packed) = example(number, EARLIER).pack() {
+            let _ = medium.program(row, &packed);
         }
-        number = number.saturating_add(1);
-    }
-}
-
-/// What came of a call: the number that it answers, or the refusal.
-fn told(answer: Result<u64, StoreFault>) -> u64 {
-    match answer {
-        Ok(number) => number,
-        Err(fault) => u64::from(fault.number()),
     }
 }
 
 /// Stores the weighing that is pending, and voids it where it is refused.
 fn store<M: Medium>(terminal: &mut Terminal<M>, claim: Claim) -> Result<u64, StoreFault> {
-    match terminal.store(claim) {
-        Ok(number) => Ok(u64::from(number)),
-        Err((claim, fault)) => {
-            terminal.void(claim);
-            Err(fault)
+    terminal.store(claim).map(u64::from).map_err(|(claim, fault)| {
+        terminal.void(claim);
+        fault
+    })
+}
+
+/// Makes the call; for any but a store the weighing that is pending is voided first.
+fn make<M: Medium>(
+    terminal: &mut Terminal<M>,
+    claim: Claim,
+    call: Call,
+    line: &mut [u8; 76],
+) -> Result<u64, StoreFault> {
+    if call == Call::Store {
+        return store(terminal, claim);
+    }
+    terminal.void(claim);
+    match call {
+        Call::Print => {
+            terminal.print(20, line)?;
+            Ok(u64::from(line[9]))
         }
+        Call::Verify => terminal.verify(line).map(|()| 1),
+        Call::Release => terminal
+            .release(EARLIER, 9500, None)
+            .map(|pages| pages as u64),
+        Call::Store | Call::Nothing => Ok(0),
     }
 }
 
-/// A call other than a store.
-fn call<M: Medium>(terminal: &mut Terminal<M>, what: &str, line: &mut [u8; 76]) -> u64 {
-    match what {
-        "print" => match terminal.print(20, line) {
-            Ok(()) => told(Ok(u64::from(line[9]))),
-            Err(fault) => told(Err(fault)),
-        },
-        "verify" => match terminal.verify(line) {
-            Ok(()) => told(Ok(1)),
-            Err(fault) => told(Err(fault)),
-        },
-        "release" => match terminal.release(9000, 9500, None) {
-            Ok(pages) => told(Ok(pages as u64)),
-            Err(fault) => told(Err(fault)),
-        },
-        _ => 0,
-    }
-}
-
-/// Opens a terminal, weighs a lorry, and makes the call.
-fn run<M: Medium + Drop>(mut medium: M, settings: Settings, mark: Mark, what: &str) -> u64 {
-    fill(&mut medium, mark);
-    let mut line = earlier(mark, 20).line();
+/// Opens a terminal, weighs a lorry, and makes the call: what it answers, or the number of its refusal.
+fn run<M: Medium + Drop>(mut medium: M, settings: Settings, call: Call) -> u64 {
+    fill(&mut medium);
+    let mut line = example(20, EARLIER).line();
     let mut terminal = Terminal::open(medium, settings);
     let _ = terminal.sample(Tenths(0));
     for _ in 0..8 {
         let _ = terminal.sample(Tenths(12430));
     }
-    match terminal.weigh(9500, 615, b"KL4420", 18555) {
-        Ok(claim) => {
-            if what == "store" {
-                return told(store(&mut terminal, claim));
-            }
-            terminal.void(claim);
-            call(&mut terminal, what, &mut line)
-        }
-        Err(_) => 0,
-    }
+    let entered = Entered {
+        day: 9500,
+        minute: 615,
+        mark: b"KL4420",
+        unit_price: 18555,
+    };
+    let Ok(claim) = terminal.weigh(entered) else {
+        return 0;
+    };
+    make(&mut terminal, claim, call, &mut line).unwrap_or_else(|fault| u64::from(fault.number()))
 }
 
 /// The call over so many blank pages of a kind.
-fn measure(cells: &mut [u8], kind: &str, what: &str) -> anyhow::Result<u64> {
-    let Ok(settings) = Settings::check(3, 20, 3000) else {
-        return Err(anyhow!("no settings"));
-    };
-    let Ok(mark) = Mark::typed(b"KL4420") else {
-        return Err(anyhow!("no mark"));
-    };
-    let Ok(()) = check_bytes(&*cells) else {
-        return Err(anyhow!("2 to 64 pages"));
-    };
-    match kind {
-        "flash" => Ok(run(Flash::over(cells), settings, mark, what)),
-        _ => Ok(run(Sectors::over(cells), settings, mark, what)),
-    }
-}
-
-fn start(rt: &HostRuntime) -> anyhow::Result<()> {
-    let mut words = env::args(rt)?;
-    let _ = words.next();
-    let Some(what) = words.next() else {
-        return Err(anyhow!("which call?"));
-    };
-    let Some(kind) = words.next() else {
-        return Err(anyhow!("which kind?"));
-    };
-    let Some(pages) = words.next() else {
-        return Err(anyhow!("how many pages?"));
-    };
-    let pages = pages.as_str().parse::<u16>()?;
-    let mut cells = [0xFF; 32_768];
-    let size = usize::from(pages.min(64)) * 512;
-    let answer = measure(&mut cells[0..size], kind.as_str(), what.as_str())?;
-    println!(rt; "{answer}")?;
-    Ok(())
+fn measure(cells: &mut [u8], kind: Kind, call: Call) -> anyhow::Result<u64> {
+    let settings = Settings::check(3, 20, 3000).ok().context("no settings")?;
+    let cells = Cells::check(cells).ok().context("2 to 64 pages")?;
+    Ok(match kind {
+        Kind::Flash => run(Flash::over(cells), settings, call),
+        Kind::Sectors => run(Sectors::over(cells), settings, call),
+    })
 }
 
 fn main(rt: HostRuntime) -> anyhow::Result<()> {
-    start(&rt)
+    let mut words = env::args(&rt)?;
+    let _ = words.next();
+    let call = words.next().context("which call?")?;
+    let kind = words.next().context("which kind?")?;
+    let pages = words.next().context("how many pages?")?;
+    let pages = pages.as_str().parse::<u16>()?;
+    let mut cells = [0xFF; 32_768];
+    let size = usize::from(pages.min(64)) * 512;
+    let answer = measure(
+        &mut cells[..size],
+        kind.as_str().parse()?,
+        call.as_str().parse()?,
+    )?;
+    println!(rt; "{answer}")?;
+    Ok(())
 }

@@ -1,10 +1,9 @@
 -- What a player means in the rules
 use Rattle.std.specs.Prelude.{◌≡◌, ℕ, List, [], Ok, Err, Result}
-use Rattle.std.proofs.Math.Option.{none}
 use Rattle.rules.specs.Memory.{Rows}
-use Rattle.rules.specs.Terminal.{World, Answer, Releasing, opening, acts}
+use Rattle.rules.specs.Terminal.{opening, acts}
 use Rattle.rules.specs.Trace.{Reading, asks, to_begin}
-use Rattle.rules.specs.Replay.{Replay, unopened, running, eight_pages, reply_to}
+use Rattle.rules.specs.Replay.{Replay, unopened, running, eight_pages}
 use Rattle.loads.specs.declared.settings.Settings.{Settings}
 use Rattle.loads.specs.SettingsOf.{settings_of}
 use Rattle.trace.specs.Meaning.{kind_of}
@@ -31,11 +30,3 @@ begun (Err reply) = (bytes_of reply, unopened)
 abbrev pub KindAsked : Reading → Result Beginning Reply → Type 0
 KindAsked line (Ok b) = (class : ℕ) × (kg : ℕ) × (max : ℕ) × (line ≡ asks (to_begin (kind_of b.kind) class kg max))
 KindAsked line (Err reply) = Unit {0}
-
--- the bytes for an answer at a line, and the world that the call left
-abbrev pub replied : (line : ℕ) → Answer × World → List ℕ × World
-replied line after = (reply_to line after.0, after.1)
-
--- a release that names no keeping time
-abbrev pub without_keeping : (day today : ℕ) → Releasing
-without_keeping day today = record { day = day; today = today; keep = none }

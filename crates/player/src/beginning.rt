@@ -7,7 +7,7 @@ ghost use Rattle.player.specs.Players.{begun, KindAsked};
 
 use crate::reply::Reply;
 use loads::Settings;
-use trace::{Command, Item, MediumKind};
+use trace::{Command, Item, MediumKind, TraceFault};
 
 /// What a replay begins with.
 #[derive(Clone, Copy)]
@@ -21,18 +21,18 @@ pub fn begin(item: Item<'_>) -> Result<Beginning, Reply>
     ensures says { plays unopened item.entry.line (reading item.entry.asks) ≡ begun result }
     ensures kind { KindAsked (reading item.entry.asks) result }
 {
-    match item.asks {
-        Ok(
-            Command::Begin {
-                kind,
-                class,
-                kg,
-                max,
-            },
-        ) => match Settings::check(class, kg, max) {
-            Ok(settings) => Ok(Beginning { kind, settings }),
-            Err(fault) => Err(Reply::refusal(fault.number(), item.line)),
+    let line = item.line;
+    let Ok(
+        Command::Begin {
+            kind,
+            class,
+            kg,
+            max,
         },
-        _ => Err(Reply::refusal(32, item.line)),
-    }
+    ) = item.asks
+    else {
+        return Err(Reply::refused(line, TraceFault { line }));
+    };
+    let settings = Settings::check(class, kg, max).map_err(|fault| Reply::refused(line, fault))?;
+    Ok(Beginning { kind, settings })
 }

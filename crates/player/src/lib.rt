@@ -4,8 +4,10 @@
 
 mod beginning;
 mod body;
+mod fault;
 mod play;
 mod reply;
+mod run;
 mod whole;
 
 pub use beginning::{Beginning, begin};

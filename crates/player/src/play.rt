@@ -1,55 +1,57 @@
 //! The lines that a terminal plays.
 
-ghost use Rattle.std.specs.Prelude.{◌≡◌};
-ghost use Rattle.std.proofs.Math.Option.{Option};
-ghost use Rattle.rules.specs.Terminal.{Indicator as TheIndicator, opening, print as a_print, release as a_release, acts};
-ghost use Rattle.rules.specs.Replay.{running, reply_to, weighs_out, does, plays};
+ghost use Rattle.std.specs.Prelude.{◌≡◌, Option};
+ghost use Rattle.rules.specs.Terminal.{Indicator as TheIndicator, opening, store as a_store, print as a_print, acts};
+ghost use Rattle.rules.specs.Replay.{running, then_printed, weighs_out, plays};
 ghost use Rattle.loads.specs.SettingsOf.{settings_of};
-ghost use Rattle.indicator.specs.Answers.{entered};
-ghost use Rattle.trace.specs.Meaning.{meaning as command_meaning, reading};
+ghost use Rattle.indicator.specs.Entries.{entries_of};
+ghost use Rattle.trace.specs.Meaning.{reading};
 ghost use Rattle.terminal.specs.Worlds.{world, world_with};
-ghost use Rattle.player.specs.Replies.{bytes_of};
-ghost use Rattle.player.specs.Players.{playing, replied, without_keeping};
+ghost use Rattle.player.specs.Replies.{bytes_of, written, answer_of, then_print};
+ghost use Rattle.player.specs.Players.{playing};
 
 use crate::body::Player;
+use crate::fault::LineFault;
 use crate::reply::Reply;
+use indicator::Entered;
 use loads::{Intervals, Settings, Tenths};
 use media::Medium;
-use terminal::Terminal;
-use trace::{Command, Item};
+use terminal::{Claim, Terminal};
+use trace::{Command, Item, TraceFault};
 
 /// Prints the ticket of a number.
-fn print<M: Medium>(terminal: &Terminal<M>, line: usize, number: u32) -> Reply
-    ensures { bytes_of result ≡ reply_to line (acts (a_print number 76) (world M.rows M.count terminal.now)).0 }
+fn print<M: Medium>(terminal: &Terminal<M>, number: u32) -> Result<[u8; 76], LineFault>
+    ensures { acts (a_print number 76) (world M.rows M.count terminal.now) ≡ (answer_of result, world M.rows M.count terminal.now) }
 {
     let mut ticket = [0; 76];
-    match terminal.print(number, &mut ticket) {
-        Ok(()) => Reply::Ticket(ticket),
-        Err(fault) => Reply::refusal(fault.number(), line),
+    terminal.print(number, &mut ticket)?;
+    Ok(ticket)
+}
+
+/// Stores what was weighed, and voids what cannot be stored.
+fn store<M: Medium>(terminal: &mut Terminal<M>, claim: Claim) -> Result<u32, LineFault>
+    ensures { then_printed (acts a_store (world M.rows M.count terminal.old)) ≡ then_print result (world M.rows M.count terminal.new) }
+{
+    // A match: of what a closure in `map_err` does to the terminal the proof learns nothing.
+    match terminal.store(claim) {
+        Ok(number) => Ok(number),
+        Err((claim, fault)) => {
+            terminal.void(claim);
+            Err(LineFault::from(fault))
+        }
     }
 }
 
-/// Weighs, stores and prints; voids what cannot be stored.
+/// Weighs, stores and prints.
 fn weigh_out<M: Medium>(
     terminal: &mut Terminal<M>,
-    line: usize,
-    day: u16,
-    minute: u32,
-    mark: &[u8],
-    unit_price: u32,
-) -> Reply
-    ensures { replied line (weighs_out (entered day minute mark.now unit_price) (world M.rows M.count terminal.old)) ≡ (bytes_of result, world M.rows M.count terminal.new) }
+    entered: Entered<'_>,
+) -> Result<[u8; 76], LineFault>
+    ensures { weighs_out (entries_of entered.entry) (world M.rows M.count terminal.old) ≡ (answer_of result, world M.rows M.count terminal.new) }
 {
-    match terminal.weigh(day, minute, mark, unit_price) {
-        Ok(claim) => match terminal.store(claim) {
-            Ok(number) => print(&*terminal, line, number),
-            Err((claim, fault)) => {
-                terminal.void(claim);
-                Reply::refusal(fault.number(), line)
-            }
-        },
-        Err(fault) => Reply::refusal(fault.number(), line),
-    }
+    let claim = terminal.weigh(entered)?;
+    let number = store(terminal, claim)?;
+    print(&*terminal, number)
 }
 
 impl<M: Medium> Player<M> {
@@ -64,44 +66,47 @@ impl<M: Medium> Player<M> {
     }
 
     /// Does what a line asks for.
-    fn obey(&mut self, line: usize, command: Command<'_>) -> Reply
-        ensures says { replied line (does (settings_of self.old.settings) (world M.rows M.count self.old.terminal) (command_meaning command.entry)) ≡ (bytes_of result, world M.rows M.count self.new.terminal) }
-        ensures settings { self.new.settings ≡ self.old.settings }
+    fn obey(&mut self, item: Item<'_>) -> Result<Reply, LineFault>
+        ensures { plays (playing M.rows M.count self.old) item.entry.line (reading item.entry.asks) ≡ (written item.entry.line result, playing M.rows M.count self.new) }
     {
         let terminal = &mut self.terminal;
-        match command {
-            Command::Begin { .. } => Reply::refusal(32, line),
-            Command::Sample(load) => Reply::to_key(line, terminal.sample(Tenths(load))),
-            Command::Zero => Reply::to_key(line, terminal.set_zero()),
-            Command::Tare => Reply::to_key(line, terminal.take_tare()),
-            Command::Preset(value) => Reply::to_key(line, terminal.preset_tare(Intervals(value))),
-            Command::ClearTare => Reply::to_key(line, terminal.clear_tare()),
+        match item.asks? {
+            Command::Begin { .. } => return Err(LineFault::Trace(TraceFault { line: item.line })),
+            Command::Sample(load) => terminal.sample(Tenths(load))?,
+            Command::Zero => terminal.set_zero()?,
+            Command::Tare => terminal.take_tare()?,
+            Command::Preset(value) => terminal.preset_tare(Intervals(value))?,
+            Command::ClearTare => terminal.clear_tare()?,
             Command::Weigh {
                 day,
                 minute,
                 mark,
                 place: _,
                 unit_price,
-            } => weigh_out(terminal, line, day, minute, mark, unit_price),
-            Command::Reopen => {
-                terminal.reopen(self.settings);
-                Reply::Nothing
+            } => {
+                let entered = Entered {
+                    day,
+                    minute,
+                    mark,
+                    unit_price,
+                };
+                return Ok(Reply::Ticket(weigh_out(terminal, entered)?));
             }
-            Command::Release { day, today } => Reply::to_release(
-                line,
-                terminal.release(day, today, None),
-            ),
-            Command::Print(number) => print(&*terminal, line, number),
+            Command::Reopen => terminal.reopen(self.settings),
+            Command::Release { day, today } => {
+                terminal.release(day, today, None)?;
+            }
+            Command::Print(number) => return Ok(Reply::Ticket(print(&*terminal, number)?)),
         }
+        Ok(Reply::Nothing)
     }
 
     /// Plays a line, and gives what it writes.
     pub fn play(&mut self, item: Item<'_>) -> Reply
         ensures { plays (playing M.rows M.count self.old) item.entry.line (reading item.entry.asks) ≡ (bytes_of result, playing M.rows M.count self.new) }
     {
-        match item.asks {
-            Ok(command) => self.obey(item.line, command),
-            Err(fault) => Reply::refusal(fault.number(), item.line),
-        }
+        let line = item.line;
+        self.obey(item)
+            .unwrap_or_else(|fault| Reply::refused(line, fault))
     }
 }

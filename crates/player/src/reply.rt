@@ -1,13 +1,11 @@
 //! What a line of a trace writes.
 
-ghost use Rattle.std.specs.Prelude.{◌≡◌, ◌+◌, ◌%◌};
-ghost use Rattle.rules.specs.Replay.{refusal_line, reply_to};
-ghost use Rattle.indicator.specs.Answers.{answer};
-ghost use Rattle.terminal.specs.Answers.{release_answer};
+ghost use Rattle.std.specs.Prelude.{◌≡◌};
+ghost use Rattle.rules.specs.Tickets.{decimal};
+ghost use Rattle.rules.specs.Replay.{refusal_line};
 ghost use Rattle.player.specs.Replies.{bytes_of};
 
-use indicator::IndicatorFault;
-use terminal::StoreFault;
+use rules::Fault;
 
 /// What a line of a trace writes.
 #[derive(Clone, Copy)]
@@ -17,11 +15,19 @@ pub enum Reply {
     Refusal([u8; 11]),
 }
 
-/// The last digit of a number, in ASCII.
-fn digit(number: usize) -> u8
-    ensures { result ≡ number % 10 + 48 }
+/// The last digits of a number, in ASCII, with leading zeros.
+// The lines of `records` have such digits too; one function for both would be public in a crate that the player has no other use for.
+fn digits<const N: usize>(number: usize) -> [u8; N]
+    ensures { result ≡ decimal N number }
 {
-    (number % 10) as u8 + b'0'
+    let mut digits = [b'0'; N];
+    let mut rest = number;
+    for digit in digits.iter_mut() {
+        *digit = (rest % 10) as u8 + b'0';
+        rest /= 10;
+    }
+    digits.reverse();
+    digits
 }
 
 impl Reply {
@@ -29,39 +35,26 @@ impl Reply {
     pub fn refusal(number: u8, line: usize) -> Reply
         ensures { bytes_of result ≡ refusal_line number line }
     {
-        let number = number as usize;
-        Reply::Refusal([
-            b'E',
-            b' ',
-            digit(number / 10),
-            digit(number),
-            b' ',
-            digit(line / 10 / 10 / 10 / 10),
-            digit(line / 10 / 10 / 10),
-            digit(line / 10 / 10),
-            digit(line / 10),
-            digit(line),
-            b'\n',
-        ])
+        let [tens, ones] = digits::<2>(usize::from(number));
+        let [a, b, c, d, e] = digits::<5>(line);
+        Reply::Refusal([b'E', b' ', tens, ones, b' ', a, b, c, d, e, b'\n'])
     }
 
-    /// Nothing for a key that is accepted, else its refusal.
-    pub(crate) fn to_key(line: usize, key: Result<(), IndicatorFault>) -> Reply
-        ensures { bytes_of result ≡ reply_to line (answer key) }
+    /// The refusal of a line, by the number of a fault.
+    pub(crate) fn refused<F: Fault>(line: usize, fault: F) -> Reply
+        ensures { bytes_of result ≡ refusal_line (F.number_of fault) line }
     {
-        match key {
-            Ok(()) => Reply::Nothing,
-            Err(fault) => Reply::refusal(fault.number(), line),
-        }
+        Reply::refusal(fault.number(), line)
     }
 
-    /// Nothing for a release that is accepted, else its refusal.
-    pub(crate) fn to_release(line: usize, released: Result<usize, StoreFault>) -> Reply
-        ensures { bytes_of result ≡ reply_to line (release_answer released) }
+    /// The bytes that it writes.
+    pub(crate) fn bytes(&self) -> &[u8]
+        ensures { result.now ≡ bytes_of self.now }
     {
-        match released {
-            Ok(_) => Reply::Nothing,
-            Err(fault) => Reply::refusal(fault.number(), line),
+        match self {
+            Reply::Nothing => &[],
+            Reply::Ticket(line) => line,
+            Reply::Refusal(line) => line,
         }
     }
 }

@@ -3,88 +3,37 @@
 
 #![tactic(auto)]
 
-use loads::Interval;
-use media::{Flash, Medium, Sectors};
-use memory::{look_up, release, store};
-use records::{Mark, Record, Tare, Weighing, Weight};
+use media::Medium;
+use memory::{MemoryFault, look_up, store};
+use records::Weighing;
 use std::io;
+use tours::{Tour, Visit, example, tour_both};
 
-/// The weighing of a day; nothing where there is no lawful one.
-fn weighing_of(day: u16) -> Option<Weighing> {
-    let mark = Mark::typed(b"KL4420").ok()?;
-    let entries = Record {
-        number: 0,
-        day,
-        minute: 615,
-        interval: Interval::Twenty,
-        gross: Weight(1243),
-        tare: Tare::Preset(Weight(426)),
-        unit_price: 18555,
-        mark,
-    };
-    Weighing::of(entries).ok()
-}
-
-/// Looks some numbers up, and writes the days of their records.
-fn tell_found<M: Medium>(rt: &HostRuntime, kind: &str, m: &M) -> io::Result<()> {
-    for number in [1, 16, 17, 32, 48, 49, 4_294_967_313] {
-        match look_up(m, number) {
-            Ok(found) => {
-                let day = found.day;
-                println!(rt; "{kind}: record {number} is of day {day}")?;
-            }
-            Err(fault) => {
-                let refusal = fault.number();
-                println!(rt; "{kind}: record {number}: refused {refusal}")?;
-            }
-        }
-    }
-    Ok(())
-}
-
-/// Stores weighings, one a day, until one is refused; answers the first day without a record.
-fn fill<M: Medium>(rt: &HostRuntime, kind: &str, m: &mut M, first: u16) -> io::Result<u16> {
-    let mut day = first;
-    for _ in 0..100 {
-        let Some(weighing) = weighing_of(day) else {
-            break;
-        };
-        match store(m, weighing) {
-            Ok(_) => day = day.saturating_add(1),
-            Err(fault) => {
-                let number = fault.number();
-                println!(rt; "{kind}: day {day}: refused {number}")?;
-                break;
-            }
-        }
-    }
-    Ok(day)
+/// Stores the weighing of a day.
+fn store_example<M: Medium>(m: &mut M, day: u16) -> Result<u32, MemoryFault> {
+    store(m, Weighing::try_from(example(1, day)).unwrap())
 }
 
 /// Fills, releases, fills again, and looks numbers up.
-fn tour<M: Medium>(rt: &HostRuntime, kind: &str, m: &mut M) -> io::Result<()> {
-    let next = fill(rt, kind, m, 9500)?;
-    for day in [9515, 9516, 9517] {
-        let erased = release(m, day);
-        println!(rt; "{kind}: release for day {day}: pages erased {erased}")?;
+struct Stores;
+
+impl Tour for Stores {
+    fn visit<M: Medium + Drop>(mut memory: Visit<'_, M>) -> io::Result<()> {
+        let next = memory.fill(9500, store_example)?;
+        for day in [9515, 9516, 9517] {
+            memory.tell_release(day)?;
+        }
+        memory.fill(next, store_example)?;
+        // the same days once more: the first is earlier than the newest record's
+        memory.fill(next, store_example)?;
+        // a closure: a function of another crate cannot be passed by its name
+        memory.tell_found(&[1, 16, 17, 32, 48, 49, 4_294_967_313], |m, number| {
+            look_up(m, number)
+        })?;
+        memory.tell_writes()
     }
-    fill(rt, kind, m, next)?;
-    // the same days once more: the first is earlier than the newest record's
-    fill(rt, kind, m, next)?;
-    tell_found(rt, kind, &*m)?;
-    let writes = m.writes();
-    println!(rt; "{kind}: {writes} writes")
 }
 
 fn main(rt: HostRuntime) -> io::Result<()> {
-    let mut one = [0xFF; 1024];
-    let mut other = [0xFF; 1024];
-    let mut flash = Flash::over(&mut one);
-    tour(&rt, "flash", &mut flash)?;
-    drop(flash);
-    let mut sectors = Sectors::over(&mut other);
-    tour(&rt, "sectors", &mut sectors)?;
-    drop(sectors);
-    let equal = one == other;
-    println!(rt; "the bytes are equal: {equal}")
+    tour_both::<Stores>(&rt)
 }

@@ -2,9 +2,15 @@
 
 #![tactic(auto)]
 
-use indicator::IndicatorFault;
+ghost use Rattle.indicator.specs.FaultsOf.{fault_number as weigh_number, fault_place as weigh_place};
+ghost use Rattle.terminal.specs.FaultsOf.{fault_number as store_number, fault_place as store_place};
+ghost use Rattle.weigh_once.specs.declared.Refusal.TheVariants.{Weigh, Store};
+
+use indicator::{Entered, IndicatorFault};
 use loads::{Intervals, Settings, Tenths};
-use media::{Flash, Medium, Sectors};
+use media::{Cells, Flash, Medium, Sectors};
+use rules::Fault;
+use std::fmt::Display;
 use std::io;
 use std::io::Write;
 use terminal::{StoreFault, Terminal};
@@ -12,141 +18,164 @@ use terminal::{StoreFault, Terminal};
 /// What the cell sends while the lorry stands on the platform, in tenths of an interval.
 const LORRY: [i32; 8] = [12431, 12432, 12430, 12429, 12430, 12431, 12433, 12430];
 
-/// Why a lorry has no record.
+/// Why a lorry has no record: the fault of the layer that refuses it, carried whole.
 #[derive(Clone, Copy)]
 enum Refusal {
     Weigh(IndicatorFault),
     Store(StoreFault),
 }
 
-impl Refusal {
+impl Fault for Refusal {
+    ghost number_of = { elim [ Weigh f ↦ weigh_number f | Store f ↦ store_number f ] };
+
+    ghost place_of = { elim [ Weigh f ↦ weigh_place f | Store f ↦ store_place f ] };
+
     fn number(self) -> u8 {
         match self {
             Refusal::Weigh(fault) => fault.number(),
             Refusal::Store(fault) => fault.number(),
         }
     }
+
+    fn place(self) -> usize {
+        match self {
+            Refusal::Weigh(fault) => fault.place(),
+            Refusal::Store(fault) => fault.place(),
+        }
+    }
+}
+
+impl From<IndicatorFault> for Refusal {
+    fn from(fault: IndicatorFault) -> Refusal {
+        Refusal::Weigh(fault)
+    }
+}
+
+impl From<StoreFault> for Refusal {
+    fn from(fault: StoreFault) -> Refusal {
+        Refusal::Store(fault)
+    }
 }
 
 /// Weighs and stores, and voids what is not stored; answers the number of the record.
 fn weigh_and_store<M: Medium>(terminal: &mut Terminal<M>, minute: u32) -> Result<u32, Refusal> {
-    match terminal.weigh(9500, minute, b"KL4420", 18555) {
-        Ok(claim) => match terminal.store(claim) {
-            Ok(number) => Ok(number),
-            Err((claim, fault)) => {
-                terminal.void(claim);
-                Err(Refusal::Store(fault))
-            }
-        },
-        Err(fault) => Err(Refusal::Weigh(fault)),
-    }
-}
-
-/// Writes what came of a weighing.
-fn tell_weighed(rt: &HostRuntime, kind: &str, weighed: Result<u32, Refusal>) -> io::Result<()> {
-    match weighed {
-        Ok(number) => println!(rt; "{kind}: weighed and stored under number {number}"),
-        Err(refusal) => {
-            let number = refusal.number();
-            println!(rt; "{kind}: not weighed: refused {number}")
+    let entered = Entered {
+        day: 9500,
+        minute,
+        mark: b"KL4420",
+        unit_price: 18555,
+    };
+    let claim = terminal.weigh(entered)?;
+    // A match as the player has it: the edits of misuse/ keep or store the claim again in its arms.
+    match terminal.store(claim) {
+        Ok(number) => Ok(number),
+        Err((claim, fault)) => {
+            terminal.void(claim);
+            Err(Refusal::from(fault))
         }
     }
 }
 
-/// Writes what came of a key with a value.
-fn tell_key(
-    rt: &HostRuntime,
-    kind: &str,
-    key: &str,
-    value: i32,
-    answer: Result<(), IndicatorFault>,
-) -> io::Result<()> {
-    match answer {
-        Ok(()) => println!(rt; "{kind}: {key} {value}"),
-        Err(fault) => {
-            let number = fault.number();
-            println!(rt; "{kind}: {key} {value}: refused {number}")
-        }
-    }
+/// A tour of a terminal, which writes what it does; each line begins with the kind of the medium.
+#[derive(Drop)]
+struct Tour<'a, M: Medium + Drop> {
+    rt: &'a HostRuntime,
+    kind: &'a str,
+    terminal: Terminal<M>,
 }
 
-/// The platform is empty, then the lorry stands on it, and its tare is typed in.
-fn drive_on<M: Medium>(rt: &HostRuntime, kind: &str, terminal: &mut Terminal<M>) -> io::Result<()> {
-    println!(rt; "{kind}: the platform is empty")?;
-    tell_key(rt, kind, "sample", 0, terminal.sample(Tenths(0)))?;
-    println!(rt; "{kind}: a lorry stands on it")?;
-    for load in LORRY {
-        tell_key(rt, kind, "sample", load, terminal.sample(Tenths(load)))?;
+impl<M: Medium + Drop> Tour<'_, M> {
+    /// Writes a line.
+    fn tell<D: Display + Drop>(&self, what: D) -> io::Result<()> {
+        let kind = self.kind;
+        println!(self.rt; "{kind}: {what}")
     }
-    tell_key(
-        rt,
-        kind,
-        "preset tare",
-        426,
-        terminal.preset_tare(Intervals(426)),
-    )
-}
 
-/// Writes whether a line is confirmed.
-fn tell_verified(rt: &HostRuntime, kind: &str, verified: Result<(), StoreFault>) -> io::Result<()> {
-    match verified {
-        Ok(()) => println!(rt; "{kind}: the line is confirmed"),
-        Err(fault) => {
-            let number = fault.number();
-            let place = fault.place();
-            println!(rt; "{kind}: the line is refused {number} at {place}")
+    /// Writes what was refused, and the number of the fault.
+    fn tell_refused<D: Display + Drop, F: Fault>(&self, what: D, fault: F) -> io::Result<()> {
+        self.tell(format_args!("{what}: refused {}", fault.number()))
+    }
+
+    /// Writes what came of a key with a value.
+    fn tell_key(
+        &self,
+        key: &str,
+        value: i32,
+        answer: Result<(), IndicatorFault>,
+    ) -> io::Result<()> {
+        match answer {
+            Ok(()) => self.tell(format_args!("{key} {value}")),
+            Err(fault) => self.tell_refused(format_args!("{key} {value}"), fault),
         }
     }
-}
 
-/// Prints the ticket of a number, and holds it against the memory, as it is and with another digit.
-fn show_ticket<M: Medium>(
-    rt: &HostRuntime,
-    kind: &str,
-    terminal: &Terminal<M>,
-    number: u32,
-) -> io::Result<()> {
-    let mut line = [b' '; 76];
-    match terminal.print(number, &mut line) {
-        Ok(()) => {
-            let mut out = rt.stdout();
-            out.write_all(&line)?;
+    /// Takes a load of the cell.
+    fn sample(&mut self, load: i32) -> io::Result<()> {
+        let answer = self.terminal.sample(Tenths(load));
+        self.tell_key("sample", load, answer)
+    }
+
+    /// The platform is empty, then the lorry stands on it, and its tare is typed in.
+    fn drive_on(&mut self) -> io::Result<()> {
+        self.tell("the platform is empty")?;
+        self.sample(0)?;
+        self.tell("a lorry stands on it")?;
+        for load in LORRY {
+            self.sample(load)?;
         }
-        Err(fault) => {
-            let refusal = fault.number();
-            println!(rt; "{kind}: number {number}: refused {refusal}")?;
+        let answer = self.terminal.preset_tare(Intervals(426));
+        self.tell_key("preset tare", 426, answer)
+    }
+
+    /// Weighs and stores.
+    fn weigh(&mut self, minute: u32) -> io::Result<()> {
+        match weigh_and_store(&mut self.terminal, minute) {
+            Ok(number) => self.tell(format_args!("weighed and stored under number {number}")),
+            Err(refusal) => self.tell_refused("not weighed", refusal),
         }
     }
-    tell_verified(rt, kind, terminal.verify(&line))?;
-    line[40] = b'9';
-    tell_verified(rt, kind, terminal.verify(&line))
-}
 
-/// Writes what came of a release.
-fn tell_released(
-    rt: &HostRuntime,
-    kind: &str,
-    released: Result<usize, StoreFault>,
-) -> io::Result<()> {
-    match released {
-        Ok(pages) => println!(rt; "{kind}: released, pages erased: {pages}"),
-        Err(fault) => {
-            let number = fault.number();
-            println!(rt; "{kind}: not released: refused {number}")
+    /// Holds a line against the memory.
+    fn verify(&self, line: &[u8]) -> io::Result<()> {
+        match self.terminal.verify(line) {
+            Ok(()) => self.tell("the line is confirmed"),
+            Err(fault) => self.tell(format_args!(
+                "the line is refused {} at {}",
+                fault.number(),
+                fault.place()
+            )),
         }
     }
-}
 
-/// One lorry, from the empty platform to the release of old pages.
-fn serve<M: Medium>(rt: &HostRuntime, kind: &str, terminal: &mut Terminal<M>) -> io::Result<()> {
-    drive_on(rt, kind, terminal)?;
-    let weighed = weigh_and_store(terminal, 615);
-    tell_weighed(rt, kind, weighed)?;
-    show_ticket(rt, kind, &*terminal, 1)?;
-    let again = weigh_and_store(terminal, 616);
-    tell_weighed(rt, kind, again)?;
-    tell_released(rt, kind, terminal.release(9500, 9589, None))?;
-    tell_released(rt, kind, terminal.release(9500, 9590, None))
+    /// Prints the ticket of a number, and holds it against the memory, as it is and with another digit.
+    fn show_ticket(&self, number: u32) -> io::Result<()> {
+        let mut line = [b' '; 76];
+        match self.terminal.print(number, &mut line) {
+            Ok(()) => self.rt.stdout().write_all(&line)?,
+            Err(fault) => self.tell_refused(format_args!("number {number}"), fault)?,
+        }
+        self.verify(&line)?;
+        line[40] = b'9';
+        self.verify(&line)
+    }
+
+    /// Releases old pages.
+    fn release(&mut self, day: u16, today: u16) -> io::Result<()> {
+        match self.terminal.release(day, today, None) {
+            Ok(pages) => self.tell(format_args!("released, pages erased: {pages}")),
+            Err(fault) => self.tell_refused("not released", fault),
+        }
+    }
+
+    /// One lorry, from the empty platform to the release of old pages.
+    fn serve(&mut self) -> io::Result<()> {
+        self.drive_on()?;
+        self.weigh(615)?;
+        self.show_ticket(1)?;
+        self.weigh(616)?;
+        self.release(9500, 9589)?;
+        self.release(9500, 9590)
+    }
 }
 
 /// Opens a terminal over a medium, serves one lorry, and writes how often the medium was written.
@@ -156,12 +185,15 @@ fn weigh_once<M: Medium + Drop>(
     medium: M,
     settings: Settings,
 ) -> io::Result<()> {
-    let mut terminal = Terminal::open(medium, settings);
-    println!(rt; "{kind}: opened")?;
-    serve(rt, kind, &mut terminal)?;
-    let medium = terminal.close();
-    let writes = medium.writes();
-    println!(rt; "{kind}: writes: {writes}")
+    let mut tour = Tour {
+        rt,
+        kind,
+        terminal: Terminal::open(medium, settings),
+    };
+    tour.tell("opened")?;
+    tour.serve()?;
+    let Tour { terminal, .. } = tour;
+    println!(rt; "{kind}: writes: {}", terminal.close().writes())
 }
 
 fn main(rt: HostRuntime) -> io::Result<()> {
@@ -170,8 +202,9 @@ fn main(rt: HostRuntime) -> io::Result<()> {
     };
     let mut one = [0xFF; 1024];
     let mut other = [0xFF; 1024];
-    weigh_once(&rt, "flash", Flash::over(&mut one), settings)?;
-    weigh_once(&rt, "sectors", Sectors::over(&mut other), settings)?;
-    let equal = one == other;
-    println!(rt; "the bytes are equal: {equal}")
+    let flash = Flash::over(Cells::check(&mut one).unwrap());
+    weigh_once(&rt, "flash", flash, settings)?;
+    let sectors = Sectors::over(Cells::check(&mut other).unwrap());
+    weigh_once(&rt, "sectors", sectors, settings)?;
+    println!(rt; "the bytes are equal: {}", one == other)
 }

@@ -1,7 +1,8 @@
+use Rattle.std.proofs.Common.{ap, ◌∙◌}
+use Rattle.rules.specs.Replay.{refusal_line}
 use Rattle.player.proofs.Digits.{refusal_digits}
 use Rattle.player.proofs.reply.Reply.refusal.Goals as goal
 
 pub returns : goal.returns
 returns c =
-    refusal_digits c.args.number c.args.line _ _ _ _ _ _ _ c.digit.ensures c.digit-2.ensures c.digit-3.ensures c.digit-4.ensures
-    c.digit-5.ensures c.digit-6.ensures c.digit-7.ensures
+    refusal_digits c.from.result c.args.line _ _ c.digits.ensures c.digits-2.ensures ∙ ap (λ n. refusal_line n c.args.line) c.from.ensures

@@ -1,0 +1,105 @@
+ghost use Rattle.std.specs.Prelude.{◌≡◌, ℕ};
+ghost use Rattle.memory.specs.Releases.{releases};
+
+use media::{Cells, Flash, Medium, Sectors};
+use memory::{MemoryFault, release};
+use records::Record;
+use rules::Fault;
+use std::fmt::Display;
+use std::io;
+
+/// A memory that is visited; each line that is written of it begins with the kind of its medium.
+#[derive(Drop)]
+pub struct Visit<'a, M: Medium + Drop> {
+    rt: &'a HostRuntime,
+    kind: &'a str,
+    pub medium: M,
+}
+
+impl<M: Medium + Drop> Visit<'_, M> {
+    /// Writes a line.
+    pub fn tell<D: Display + Drop>(&self, what: D) -> io::Result<()> {
+        let kind = self.kind;
+        println!(self.rt; "{kind}: {what}")
+    }
+
+    /// Writes how often the medium was written.
+    pub fn tell_writes(&self) -> io::Result<()> {
+        self.tell(format_args!("{} writes", self.medium.writes()))
+    }
+
+    /// Releases up to a day, and writes how many pages were erased.
+    pub fn tell_release(&mut self, day: u16) -> io::Result<()>
+        ensures says { (pages : ℕ) × (releases (M.rows self.old.medium) (M.count self.old.medium) day ≡ (pages, M.rows self.new.medium, M.count self.new.medium)) }
+        ensures lender { M.lender self.new.medium ≡ M.lender self.old.medium }
+    {
+        let erased = release(&mut self.medium, day);
+        self.tell(format_args!("release for day {day}: pages erased {erased}"))
+    }
+
+    /// Looks for some numbers, and writes the days of their records.
+    pub fn tell_found<N: Display + Copy, F: Fn(&M, N) -> Result<Record, MemoryFault>>(
+        &self,
+        numbers: &[N],
+        find: F,
+    ) -> io::Result<()>
+        requires { F.IsAlwaysCallable find }
+    {
+        for &number in numbers {
+            match find(&self.medium, number) {
+                Ok(found) => self.tell(format_args!("record {number} is of day {}", found.day))?,
+                Err(fault) => self.tell(format_args!(
+                    "record {number}: refused {}",
+                    fault.number()
+                ))?,
+            }
+        }
+        Ok(())
+    }
+
+    /// Stores what is weighed, once a day, until it is refused; answers the first day on which nothing was stored.
+    pub fn fill<T: Drop, F: Fn(&mut M, u16) -> Result<T, MemoryFault>>(
+        &mut self,
+        first: u16,
+        store: F,
+    ) -> io::Result<u16>
+        requires { F.IsAlwaysCallable store }
+    {
+        let mut day = first;
+        for _ in 0..100 {
+            match store(&mut self.medium, day) {
+                Ok(_) => day = day.saturating_add(1),
+                Err(fault) => {
+                    self.tell(format_args!("day {day}: refused {}", fault.number()))?;
+                    break;
+                }
+            }
+        }
+        Ok(day)
+    }
+}
+
+/// A tour of a memory, over whatever medium.
+pub trait Tour {
+    /// Visits a memory, from blank rows on.
+    fn visit<M: Medium + Drop>(memory: Visit<'_, M>) -> io::Result<()>;
+}
+
+/// Makes a tour over flash and over sectors of 1,024 blank bytes each, and writes whether the bytes are the same in the end.
+pub fn tour_both<T: Tour>(rt: &HostRuntime) -> io::Result<()> {
+    let mut one = [0xFF; 1024];
+    let mut other = [0xFF; 1024];
+    let flash = Flash::over(Cells::check(&mut one).unwrap());
+    T::visit(Visit {
+        rt,
+        kind: "flash",
+        medium: flash,
+    })?;
+    let sectors = Sectors::over(Cells::check(&mut other).unwrap());
+    T::visit(Visit {
+        rt,
+        kind: "sectors",
+        medium: sectors,
+    })?;
+    println!(rt; "the bytes are equal: {}", one == other)
+}
