@@ -4,17 +4,10 @@
 
 use media::Medium;
 use memory::{Entry, MemoryFault, append, check_order, find, newest, next_number, next_row};
+use records::Record;
 use rules::Fault;
 use std::io;
-use tours::{Tour, Visit, example, tour_both};
-
-/// Packs the example of a day under the next number, and appends it.
-#[tactic(auto, using(crate::proofs::Numbers::next_number_from_1))]
-fn append_example<M: Medium>(m: &mut M, day: u16) -> Result<usize, MemoryFault> {
-    let number = u32::try_from(next_number(&*m)).map_err(|_| MemoryFault::NoNumber)?;
-    let packed = example(number, day).pack().unwrap();
-    append(m, &packed)
-}
+use tours::{Calls, Tour, Visit, example, tour_both};
 
 /// Writes what is found in a memory.
 fn tell<M: Medium + Drop>(memory: &Visit<'_, M>) -> io::Result<()> {
@@ -40,19 +33,34 @@ fn tell<M: Medium + Drop>(memory: &Visit<'_, M>) -> io::Result<()> {
 /// Fills, releases, fills again, and writes what is found after each step.
 struct Appends;
 
+impl Calls for Appends {
+    /// Packs the example of a day under the next number, and appends it.
+    #[tactic(auto, using(crate::proofs::Numbers::next_number_from_1))]
+    fn store<M: Medium>(memory: &mut M, day: u16) -> Result<(), MemoryFault> {
+        let number = u32::try_from(next_number(&*memory)).map_err(|_| MemoryFault::NoNumber)?;
+        let packed = example(number, day).pack().unwrap();
+        append(memory, &packed)?;
+        Ok(())
+    }
+
+    fn find<M: Medium>(memory: &M, number: u64) -> Result<Record, MemoryFault> {
+        let number = u32::try_from(number).map_err(|_| MemoryFault::Unknown)?;
+        find(memory, number)
+    }
+}
+
 impl Tour for Appends {
     fn visit<M: Medium + Drop>(mut memory: Visit<'_, M>) -> io::Result<()> {
         tell(&memory)?;
-        let next = memory.fill(9500, append_example)?;
+        let next = memory.fill::<Appends>(9500)?;
         tell(&memory)?;
         for day in [9515, 9516, 9517] {
             memory.tell_release(day)?;
             tell(&memory)?;
         }
-        memory.fill(next, append_example)?;
+        memory.fill::<Appends>(next)?;
         tell(&memory)?;
-        // a closure: a function of another crate cannot be passed by its name
-        memory.tell_found(&[1, 16, 17, 32, 48, 49], |m, number| find(m, number))?;
+        memory.tell_found::<Appends>(&[1, 16, 17, 32, 48, 49])?;
         memory.tell_writes()
     }
 }

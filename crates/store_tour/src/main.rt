@@ -5,31 +5,35 @@
 
 use media::Medium;
 use memory::{MemoryFault, look_up, store};
-use records::Weighing;
+use records::{Record, Weighing};
 use std::io;
-use tours::{Tour, Visit, example, tour_both};
-
-/// Stores the weighing of a day.
-fn store_example<M: Medium>(m: &mut M, day: u16) -> Result<u32, MemoryFault> {
-    store(m, Weighing::try_from(example(1, day)).unwrap())
-}
+use tours::{Calls, Tour, Visit, example, tour_both};
 
 /// Fills, releases, fills again, and looks numbers up.
 struct Stores;
 
+impl Calls for Stores {
+    /// Stores the weighing of a day.
+    fn store<M: Medium>(memory: &mut M, day: u16) -> Result<(), MemoryFault> {
+        store(memory, Weighing::try_from(example(1, day)).unwrap())?;
+        Ok(())
+    }
+
+    fn find<M: Medium>(memory: &M, number: u64) -> Result<Record, MemoryFault> {
+        look_up(memory, number)
+    }
+}
+
 impl Tour for Stores {
     fn visit<M: Medium + Drop>(mut memory: Visit<'_, M>) -> io::Result<()> {
-        let next = memory.fill(9500, store_example)?;
+        let next = memory.fill::<Stores>(9500)?;
         for day in [9515, 9516, 9517] {
             memory.tell_release(day)?;
         }
-        memory.fill(next, store_example)?;
+        memory.fill::<Stores>(next)?;
         // the same days once more: the first is earlier than the newest record's
-        memory.fill(next, store_example)?;
-        // a closure: a function of another crate cannot be passed by its name
-        memory.tell_found(&[1, 16, 17, 32, 48, 49, 4_294_967_313], |m, number| {
-            look_up(m, number)
-        })?;
+        memory.fill::<Stores>(next)?;
+        memory.tell_found::<Stores>(&[1, 16, 17, 32, 48, 49, 4_294_967_313])?;
         memory.tell_writes()
     }
 }

@@ -6,4 +6,4 @@ mod examples;
 mod visit;
 
 pub use examples::example;
-pub use visit::{Tour, Visit, tour_both};
+pub use visit::{Calls, Tour, Visit, tour_both};

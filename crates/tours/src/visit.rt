@@ -1,4 +1,4 @@
-ghost use Rattle.std.specs.Prelude.{◌≡◌, ℕ};
+ghost use Rattle.std.specs.Prelude.{◌≡◌, ℕ, ◌+◌, ◌≤◌, IfOk};
 ghost use Rattle.memory.specs.Releases.{releases};
 
 use media::{Cells, Flash, Medium, Sectors};
@@ -38,15 +38,9 @@ impl<M: Medium + Drop> Visit<'_, M> {
     }
 
     /// Looks for some numbers, and writes the days of their records.
-    pub fn tell_found<N: Display + Copy, F: Fn(&M, N) -> Result<Record, MemoryFault>>(
-        &self,
-        numbers: &[N],
-        find: F,
-    ) -> io::Result<()>
-        requires { F.IsAlwaysCallable find }
-    {
+    pub fn tell_found<C: Calls>(&self, numbers: &[u64]) -> io::Result<()> {
         for &number in numbers {
-            match find(&self.medium, number) {
+            match C::find(&self.medium, number) {
                 Ok(found) => self.tell(format_args!("record {number} is of day {}", found.day))?,
                 Err(fault) => self.tell(format_args!(
                     "record {number}: refused {}",
@@ -57,26 +51,30 @@ impl<M: Medium + Drop> Visit<'_, M> {
         Ok(())
     }
 
-    /// Stores what is weighed, once a day, until it is refused; answers the first day on which nothing was stored.
-    pub fn fill<T: Drop, F: Fn(&mut M, u16) -> Result<T, MemoryFault>>(
-        &mut self,
-        first: u16,
-        store: F,
-    ) -> io::Result<u16>
-        requires { F.IsAlwaysCallable store }
+    /// Stores the example once a day, for 100 days at most, until it is refused; answers the first day on which nothing was stored.
+    pub fn fill<C: Calls>(&mut self, first: u16) -> io::Result<u16>
+        ensures days { IfOk result (λ day. (first ≤ day) × (day ≤ first + 100)) }
+        ensures lender { M.lender self.new.medium ≡ M.lender self.old.medium }
     {
-        let mut day = first;
-        for _ in 0..100 {
-            match store(&mut self.medium, day) {
-                Ok(_) => day = day.saturating_add(1),
-                Err(fault) => {
-                    self.tell(format_args!("day {day}: refused {}", fault.number()))?;
-                    break;
-                }
+        let end = first.saturating_add(100);
+        for day in first..end {
+            if let Err(fault) = C::store(&mut self.medium, day) {
+                self.tell(format_args!("day {day}: refused {}", fault.number()))?;
+                return Ok(day);
             }
         }
-        Ok(day)
+        Ok(end)
     }
+}
+
+/// How a tour stores and finds, over whatever medium.
+pub trait Calls {
+    /// Stores the example of a day.
+    fn store<M: Medium>(memory: &mut M, day: u16) -> Result<(), MemoryFault>
+        ensures { M.lender memory.new ≡ M.lender memory.old };
+
+    /// The record of a number, if it is found.
+    fn find<M: Medium>(memory: &M, number: u64) -> Result<Record, MemoryFault>;
 }
 
 /// A tour of a memory, over whatever medium.
