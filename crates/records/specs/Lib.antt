@@ -6,4 +6,3 @@ pub mod RecordsOf
 pub mod WeighingsOf
 pub mod FieldsOf
 pub mod Verdicts
-pub mod LinesOf

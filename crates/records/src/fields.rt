@@ -1,6 +1,6 @@
 //! The fields of a row as plain numbers, in words and out of words.
 
-ghost use Rattle.std.specs.Prelude.{◌≡◌, ◌*◌, ◌/◌, ◌^◌, ◌<◌, true, if◌then◌else◌, None, Some, option_map};
+ghost use Rattle.std.specs.Prelude.{◌≡◌, ◌*◌, ◌/◌, ◌^◌, ◌<◌, ◌&&◌, ◌==◌, true, if◌then◌else◌, None, Some, option_map};
 ghost use Rattle.rules.specs.Lists.{number_of};
 ghost use Rattle.rules.specs.Records.{lawful};
 ghost use Rattle.rules.specs.Rows.{fields as fields_of, side_by_side};
@@ -118,6 +118,13 @@ impl Fields {
         }
     }
 
+    /// Whether the net weight and the price of the fields are those of a record, and the record is lawful.
+    fn agrees(self, found: Record) -> bool
+        ensures { result ≡ (self.net == (record_of found).net && (self.price == (record_of found).price && lawful (record_of found))) }
+    {
+        self.net == found.net().0 && u64::from(self.price) == found.price() && found.is_lawful()
+    }
+
     /// The record in the fields, if it is lawful.
     pub(crate) fn record(self) -> Option<Record>
         ensures { option_map record_of result ≡ (if is_record self then Some (record_in self) else None) }
@@ -135,13 +142,6 @@ impl Fields {
             unit_price: self.unit_price,
             mark: Mark::from_value(self.mark).ok()?,
         };
-        if self.net == found.net().0
-            && u64::from(self.price) == found.price()
-            && found.is_lawful()
-        {
-            Some(found)
-        } else {
-            None
-        }
+        self.agrees(found).then_some(found)
     }
 }

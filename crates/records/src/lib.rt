@@ -14,7 +14,7 @@ mod weighing;
 mod weighings;
 mod words;
 
-pub use line::line_number;
+pub use line::{decimal, line_number};
 pub use mark::{Mark, NoMark};
 pub use record::{Record, Tare, Weight};
 pub use row::{Damage, Unlawful, Verdict, judge};

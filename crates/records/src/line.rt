@@ -4,15 +4,15 @@ ghost use Rattle.std.specs.Prelude.{◌≡◌, ◌+◌, ◌-◌, ◌<◌, ◌≤
 ghost use Rattle.arrayvec.specs.ArrayVec.{array_vec_len};
 ghost use Rattle.rules.specs.Terminal.{all_digits, number_in};
 ghost use Rattle.rules.specs.Tickets.{decimal as decimal_of, tare_letters, ticket};
-ghost use Rattle.records.specs.LinesOf.{digits_number};
 ghost use Rattle.records.specs.RecordsOf.{tare_kind_of, record_of};
 
 use crate::digits::digits;
 use crate::record::{Record, Tare};
 use arrayvec::ArrayVec;
+use rules::read_decimal;
 
-/// A number in so many digits, with leading zeros.
-fn decimal<const N: usize>(value: u64) -> [u8; N]
+/// The last `N` digits of a number, in ASCII, with leading zeros.
+pub fn decimal<const N: usize>(value: u64) -> [u8; N]
     ensures { result ≡ decimal_of N value }
 {
     digits::<10, b'0', N>(value)
@@ -64,21 +64,6 @@ impl Record {
         put(&mut line, &decimal::<9>(self.price()), b'\n');
         line.into_inner().unwrap()
     }
-}
-
-/// The number that digits write; none where some character is no digit.
-fn read_decimal(text: &[u8]) -> Option<u64>
-    requires { length text.now ≤ 19 }
-    ensures { result ≡ (if all_digits text.now then Some (digits_number text.now) else None) }
-{
-    let mut number = 0;
-    for byte in text {
-        if *byte < b'0' || *byte > b'9' {
-            return None;
-        }
-        number = number * 10 + u64::from(*byte - b'0');
-    }
-    Some(number)
 }
 
 /// The number of the record whose line this may be: its first ten characters; none unless it has 76 bytes and begins with ten digits.

@@ -69,10 +69,9 @@ pub fn judge(row: &[u8; 32]) -> Verdict
     if !is_checked(words) {
         return Verdict::Damaged(Damage::Check);
     }
-    match Fields::read(words).record() {
-        Some(found) => Verdict::Intact(found),
-        None => Verdict::Damaged(Damage::Fields),
-    }
+    Fields::read(words)
+        .record()
+        .map_or(Verdict::Damaged(Damage::Fields), Verdict::Intact)
 }
 
 impl Record {

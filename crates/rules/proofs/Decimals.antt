@@ -1,15 +1,11 @@
 -- Decimal digits that are read one after another
-use Rattle.std.proofs.Common.{◌≡◌, ℕ, suc, ◌+◌, ◌-◌, ◌*◌, ◌^◌, ◌<◌, ◌≤◌, Bool, true, false, ◌&&◌, leb, ◌⊎◌, List, map, length, get_or, take, drop, sym, refl, ap, ◌∙◌, inl, inr, pow-suc, arith}
+use Rattle.std.proofs.Common.{◌≡◌, ℕ, zero, suc, ◌+◌, ◌-◌, ◌*◌, ◌^◌, ◌<◌, ◌≤◌, Bool, true, false, ◌&&◌, leb, ◌⊎◌, List, [], ◌∷◌, map, length, get_or, take, drop, sym, refl, ap, ◌∙◌, inl, inr, pow-suc, arith}
 use native.Mathlib.Nat.{pow-le-pow_right}
 use Rattle.std.proofs.lemmas.Int.Digits.{number_push}
-use Rattle.std.proofs.lemmas.List.{drop_more, map_more}
-use Rattle.std.proofs.lemmas.Bool.{le-leb, lt-leb}
+use Rattle.std.proofs.lemmas.List.{drop_more, map_more, take_all}
+use Rattle.std.proofs.lemmas.Bool.{le-leb, lt-leb, leb-true, and_parts}
 use Rattle.rules.specs.Lists.{number_of}
-use Rattle.rules.specs.Terminal.{all_digits}
-
--- the number that the characters of digits write
-abbrev pub written : List ℕ → ℕ
-written text = number_of 10 0 (map (λ c. c - 48) text)
+use Rattle.rules.specs.Terminal.{all_digits, written}
 
 -- one digit more
 pub digit_more : (text : List ℕ) (i v : ℕ) → i < length text → v ≡ written (take i text) → v * 10 + (get_or text i 0 - 48) ≡ written (take (i + 1) text)
@@ -38,3 +34,25 @@ module _ (text : List ℕ) (i : ℕ) (inside : i < length text) where
       never : (b : Bool) → ((b && false) && all_digits (drop (i + 1) text)) ≡ false
       never true = refl
       never false = refl
+
+-- ---- What digits write is small
+
+pub digit_at : (text : List ℕ) (i : ℕ) → i < length text → all_digits text ≡ true → get_or text i 0 - 48 < 10
+digit_at [] i h e = absurd (omega arith)
+digit_at (c ∷ cs) zero h e = let both = and_parts (leb 48 c && leb c 57) (all_digits cs) e in omega (arith, leb-true c 57 (and_parts (leb 48 c) (leb c 57) both.0).1)
+digit_at (c ∷ cs) (suc i) h e = digit_at cs i (omega (arith, h)) (and_parts (leb 48 c && leb c 57) (all_digits cs) e).1
+
+first_digits_small : (text : List ℕ) → all_digits text ≡ true → (i : ℕ) → i ≤ length text → written (take i text) < 10 ^ i
+unfolding number_of
+first_digits_small text e zero h = omega arith
+first_digits_small text e (suc i) h =
+    let before = first_digits_small text e i (omega (arith, h)) in
+    let next : i + 1 ≡ suc i = omega arith in
+    omega (
+      arith, digit_more text i (written (take i text)) (omega (arith, h)) refl, digit_room i (written (take i text)) (get_or text i 0 - 48) (digit_at text i (omega (arith, h)) e) before,
+      ap (λ n. written (take n text)) next, ap (λ n. 10 ^ n) next
+    )
+
+pub digits_small : (text : List ℕ) (most : ℕ) → length text ≤ most → all_digits text ≡ true → written text < 10 ^ most
+digits_small text most h e =
+    omega (arith, ap written (take_all (length text) text (omega arith)), first_digits_small text e (length text) (omega arith), few_digits (length text) most h)

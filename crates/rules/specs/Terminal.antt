@@ -244,9 +244,13 @@ abbrev pub all_digits : List ℕ → Bool
 all_digits [] = true
 all_digits (c ∷ cs) = (nat_le 48 c && nat_le c 57) && all_digits cs
 
+-- the number that digits write
+abbrev pub written : List ℕ → ℕ
+written text = number_of 10 0 (map (λ c. c - 48) text)
+
 -- the number that the first ten characters of a line write
 abbrev pub number_in : List ℕ → ℕ
-number_in line = number_of 10 0 (map (λ c. c - 48) (take 10 line))
+number_in line = written (take 10 line)
 
 -- the first place, counted from k, at which two lines differ
 abbrev pub difference : ℕ → List ℕ → List ℕ → Option ℕ

@@ -1,7 +1,7 @@
 -- A trace: text in lines, each of which asks a terminal for something
 use Rattle.std.specs.Prelude.{ℕ, ◌+◌, ◌-◌, cond, ◌&&◌, List, [], ◌∷◌, map, length, ℤ, pos, neg_ℤ, ◌==◌, nat_le, Option, None, Some}
 use Rattle.rules.specs.Lists.{when_some, number_of}
-use Rattle.rules.specs.Terminal.{Key, set_zero, take_tare, clear_tare, preset_tare, Entries, all_digits}
+use Rattle.rules.specs.Terminal.{Key, set_zero, take_tare, clear_tare, preset_tare, Entries, all_digits, written}
 
 -- ---- Lines
 
@@ -43,7 +43,7 @@ a_byte (c ∷ cs) = at_end cs c
 
 -- 1 to 9 digits
 unfoldable pub a_number : List ℕ → Option ℕ
-a_number word = cond (nat_le 1 (length word) && (nat_le (length word) 9 && all_digits word)) (Some (number_of 10 0 (map (λ c. c - 48) word))) None
+a_number word = cond (nat_le 1 (length word) && (nat_le (length word) 9 && all_digits word)) (Some (written word)) None
 
 -- a number, or one behind a minus, 45
 unfoldable pub a_load : List ℕ → Option ℤ

@@ -6,6 +6,7 @@
 #![tactic(auto)]
 
 mod blank;
+mod decimal;
 mod fault;
 mod layer;
 
@@ -14,6 +15,7 @@ ghost use Rattle.rules.specs.Cases.{WorkedCases, WorkedLines};
 ghost use Rattle.rules.specs.Promise.{KeepsRecords};
 
 pub use blank::is_blank;
+pub use decimal::read_decimal;
 pub use fault::Fault;
 pub use layer::Layer;
 

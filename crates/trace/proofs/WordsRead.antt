@@ -2,10 +2,9 @@
 use Rattle.std.proofs.Common.{◌≡◌, Result, Ok, Err, ℕ, zero, suc, ◌-◌, ◌<◌, ◌≤◌, Bool, true, false, cond, ◌&&◌, eqb, leb, ◌⊎◌, List, [], ◌∷◌, length, get_or, take, drop, pos, neg_ℤ, sym, refl, ap, ◌∙◌, inl, inr, arith, Option, None, Some}
 use Rattle.std.proofs.lemmas.List.{take_rest}
 use Rattle.std.proofs.lemmas.Bool.{le-leb, lt-leb, eq-eqb, ne_eqb, eqb-true, eqb-false, cases_lt}
-use Rattle.rules.proofs.Decimals.{written}
 use Rattle.rules.specs.Lists.{when_some}
 use Rattle.std.specs.Result.{OkIff, result_ok}
-use Rattle.rules.specs.Terminal.{all_digits}
+use Rattle.rules.specs.Terminal.{all_digits, written}
 use Rattle.rules.specs.Trace.{flash, sectors, a_byte, a_number, a_day, a_kind, a_load, a_mark}
 
 -- ---- One byte
@@ -46,15 +45,9 @@ too_long word h =
     ∙ ap (λ b. cond b (Some (written word)) None) (never (leb 1 (length word)))
 
 module _ (word : List ℕ) (low : 1 ≤ length word) (high : length word ≤ 9) where
-  sized : a_number word ≡ cond (all_digits word) (Some (written word)) None
+  pub sized : a_number word ≡ cond (all_digits word) (Some (written word)) None
   unfolding a_number
   sized = rw (le-leb 1 (length word) low, le-leb (length word) 9 high)
-
-  pub all_good : all_digits word ≡ true → a_number word ≡ Some (written word)
-  all_good e = sized ∙ ap (λ b. cond b (Some (written word)) None) e
-
-  pub some_bad : all_digits word ≡ false → a_number word ≡ None
-  some_bad e = sized ∙ ap (λ b. cond b (Some (written word)) None) e
 
 -- ---- Days, kinds and loads
 

@@ -5,6 +5,7 @@ ghost use Rattle.rules.specs.Trace.{a_byte, a_number, a_load, a_day, a_mark, a_k
 ghost use Rattle.trace.specs.Meaning.{kind_of};
 
 use crate::command::MediumKind;
+use rules::read_decimal;
 
 /// A number has at most so many digits.
 const LONGEST_NUMBER: usize = 9;
@@ -30,7 +31,6 @@ pub(crate) fn single(word: &[u8]) -> Option<u8>
 }
 
 /// A number of 1 to 9 digits.
-// `records` reads ten digits of a line into 64 bits; one function for both would be public in a crate that a reader of traces has no use for.
 pub(crate) fn number(word: &[u8]) -> Option<u32>
     ensures value { result ≡ a_number word.now }
     ensures small { IfSome result (λ n. n < 1000000000) }
@@ -38,14 +38,7 @@ pub(crate) fn number(word: &[u8]) -> Option<u32>
     if word.is_empty() || word.len() > LONGEST_NUMBER {
         return None;
     }
-    let mut number = 0;
-    for byte in word {
-        if !byte.is_ascii_digit() {
-            return None;
-        }
-        number = number * 10 + u32::from(*byte - b'0');
-    }
-    Some(number)
+    Some(read_decimal(word)? as u32)
 }
 
 /// A number, perhaps with a minus in front.

@@ -2,7 +2,13 @@ use Rattle.std.proofs.Common.{◌≡◌, ℕ, ◌/◌, ◌^◌, ◌<◌, true, f
 use Rattle.rules.specs.Lists.{when_some, number_of, digits_of}
 use Rattle.rules.specs.Records.{Record as TheRecord}
 use Rattle.rules.specs.Rows.{side_by_side, read_row, is_blank, blank, wrong_check, wrong_fields, intact, is_checked, judged}
-use Rattle.records.specs.declared.fields.Fields.{Fields}
+use Rattle.std.specs.Option.{MatchOption, option_map}
+use Rattle.records.specs.declared.fields.Fields.{Fields as TheFields}
+use Rattle.records.specs.declared.record.Record.{Record}
+use Rattle.records.specs.declared.row.Verdict.{Verdict}
+use Rattle.records.specs.declared.row.Verdict.TheVariants.{Damaged, Intact}
+use Rattle.records.specs.declared.row.Damage.TheVariants.{Fields}
+use Rattle.records.specs.Verdicts.{verdict_of}
 use Rattle.records.specs.FieldsOf.{field_list, FitsWidths, is_record, record_in}
 use Rattle.records.specs.RecordsOf.{record_of}
 use Rattle.records.proofs.RowsRead.{read_by_fields}
@@ -26,11 +32,16 @@ judged_fields row e f = rw (e, f)
 -- what the fields say
 module _ (row words : List ℕ) (size : length row ≡ 32) (fits : (i : ℕ) → get_or row i 0 < 256) (words_are : words ≡ digits_of (2 ^ 64) 4 (number_of 256 0 row)) where
   fields_say :
-      (f : Fields) → side_by_side 0 (field_list f) ≡ number_of (2 ^ 64) 0 words / 256 → FitsWidths (field_list f) → (said : Option TheRecord)
+      (f : TheFields) → side_by_side 0 (field_list f) ≡ number_of (2 ^ 64) 0 words / 256 → FitsWidths (field_list f) → (said : Option TheRecord)
       → said ≡ cond (is_record f) (Some (record_in f)) None → is_blank row ≡ false → is_checked row ≡ true → when_some said wrong_fields intact ≡ judged row
   fields_say f body fit said e not_blank checked =
       sym (judged_fields row not_blank checked
       ∙ ap (λ o. when_some o wrong_fields intact) (read_by_fields row size (bytes row words size fits words_are) f (body ∙ ap (λ n. n / 256) (number_is row words size fits words_are)) fit checked ∙ sym e))
+
+-- what is made of the record, if one was read
+said : (o : Option Record) (v : Verdict) → MatchOption o (v ≡ Damaged Fields) (λ x. v ≡ Intact x) → verdict_of v ≡ when_some (option_map record_of o) wrong_fields intact
+said None v h = ap verdict_of h
+said (Some x) v h = ap verdict_of h
 
 pub returns-then-are_ones : goal.returns-then-are_ones
 returns-then-are_ones c =
@@ -44,18 +55,11 @@ returns-then-not-is_checked c =
     (looks_blank row c.words_of-words.result c.told-row c.fits-row c.words_of-words.ensures c.are_ones.result false c.are_ones.ensures c.if-are_ones.false)
     (looks_checked row c.words_of-words.result c.told-row c.fits-row c.words_of-words.ensures c.is_checked.result false c.is_checked.ensures c.if-not-is_checked.true))
 
-pub returns-in-Some : goal.returns-in-Some
-returns-in-Some c =
+pub returns : goal.returns
+returns c =
     let row = c.args.row.now in
-    fields_say row c.words_of-words.result c.told-row c.fits-row c.words_of-words.ensures c.read.result c.read.ensures.body c.read.ensures.fit
-    (Some (record_of c.in-Some.found)) c.in-Some.ensures
-    (looks_blank row c.words_of-words.result c.told-row c.fits-row c.words_of-words.ensures c.are_ones.result false c.are_ones.ensures c.if-are_ones.false)
-    (looks_checked row c.words_of-words.result c.told-row c.fits-row c.words_of-words.ensures c.is_checked.result true c.is_checked.ensures c.if-not-is_checked.false)
-
-pub returns-in-None : goal.returns-in-None
-returns-in-None c =
-    let row = c.args.row.now in
-    fields_say row c.words_of-words.result c.told-row c.fits-row c.words_of-words.ensures c.read.result c.read.ensures.body c.read.ensures.fit
-    None c.in-None.ensures
+    said c.record.result c.map_or.result c.map_or.ensures
+    ∙ fields_say row c.words_of-words.result c.told-row c.fits-row c.words_of-words.ensures c.read.result c.read.ensures.body c.read.ensures.fit
+    (option_map record_of c.record.result) c.record.ensures
     (looks_blank row c.words_of-words.result c.told-row c.fits-row c.words_of-words.ensures c.are_ones.result false c.are_ones.ensures c.if-are_ones.false)
     (looks_checked row c.words_of-words.result c.told-row c.fits-row c.words_of-words.ensures c.is_checked.result true c.is_checked.ensures c.if-not-is_checked.false)

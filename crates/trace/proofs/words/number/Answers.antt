@@ -1,57 +1,46 @@
-use Rattle.std.proofs.Common.{◌≡◌, ℕ, ◌+◌, ◌*◌, ◌≤◌, true, length, sym, refl, ap, ◌∙◌, inl, inr, arith, Some}
-use Rattle.std.proofs.lemmas.List.{take_all, drop_all}
-use Rattle.rules.specs.Lists.{number_of}
-use Rattle.rules.specs.Terminal.{all_digits}
-use Rattle.rules.proofs.Decimals.{written, digit_more, digit_room, few_digits, digit_here, none_here}
-use Rattle.trace.proofs.WordsRead.{empty, filled, too_short, too_long, all_good, some_bad}
+use Rattle.std.proofs.Common.{◌≡◌, ℕ, ◌^◌, ◌<◌, ◌≤◌, Bool, true, false, cond, ◌&&◌, leb, List, length, sym, refl, ap, ◌∙◌, inl, inr, arith, Option, None, Some}
+use Rattle.std.proofs.lemmas.Bool.{le-leb, and_parts}
+use Rattle.rules.specs.Terminal.{all_digits, written}
+use Rattle.rules.specs.Trace.{a_number}
+use Rattle.rules.proofs.Decimals.{digits_small}
+use Rattle.trace.proofs.WordsRead.{empty, filled, too_short, too_long, sized}
 use Rattle.trace.proofs.words.number.Goals as goal
+
+-- what is read of a word that is short enough
+abbrev read : List ℕ → Option ℕ
+read word = cond (leb (length word) 19 && all_digits word) (Some (written word)) None
+
+same : (word : List ℕ) → 1 ≤ length word → length word ≤ 9 → read word ≡ a_number word
+same word low high = rw (le-leb (length word) 19 (omega (arith, high))) (sym (sized word low high))
+
+some_was : (b : Bool) (x y : ℕ) → Some y ≡ cond b (Some x) None → (b ≡ true) × (y ≡ x)
+some_was true x y e = (refl, cc)
+some_was false x y e = cc
 
 pub returns-then-is_empty : goal.returns-then-is_empty
 returns-then-is_empty c =
     let word = c.args.word.now in
     record { value = elim c.then-is_empty.either [ inl h ↦ sym (too_short word (empty _ _ c.is_empty.ensures h)) | inr h ↦ sym (too_long word h.1) ]; small = tt }
 
-pub loop-byte-init : goal.loop-byte-init
-unfolding number_of
-loop-byte-init c = (refl, omega arith, refl)
-
-pub returns-then-not-is_ascii_digit : goal.returns-then-not-is_ascii_digit
-returns-then-not-is_ascii_digit c =
+pub returns-in_err-read_decimal : goal.returns-in_err-read_decimal
+returns-in_err-read_decimal c =
     let word = c.args.word.now in
-    let i : ℕ = c.loop-byte.byte-index in
     record {
-      value = sym (some_bad word (filled _ _ c.is_empty.ensures c.if-is_empty.false) c.if-word-gt-LONGEST_NUMBER.false (c.loop-byte.invariant.2 ∙ none_here word i c.loop-byte-test.true (c.if-not-is_ascii_digit.ensures.cases)));
-      small = tt;
+      value = c.from_residual.ensures ∙ c.in_err-read_decimal.ensures ∙ same word (filled _ _ c.is_empty.ensures c.if-is_empty.false) c.if-word-gt-LONGEST_NUMBER.false;
+      small = rw c.from_residual.ensures tt;
     }
 
-pub overflow_mul-number : goal.overflow_mul-number
-overflow_mul-number c =
-    let i : ℕ = c.loop-byte.byte-index in
-    omega (arith, few_digits (i + 1) 9 (omega arith), digit_room i c.loop-byte.number 0 (omega arith) c.loop-byte.invariant.1)
-
-pub overflow_add-number : goal.overflow_add-number
-overflow_add-number c =
-    let i : ℕ = c.loop-byte.byte-index in
-    omega (arith, few_digits (i + 1) 9 (omega arith), digit_room i c.loop-byte.number c.from.result (omega (arith, c.if-not-is_ascii_digit.ensures.cases.1)) c.loop-byte.invariant.1)
-
-pub loop-byte-preserved : goal.loop-byte-preserved
-loop-byte-preserved c =
+pub overflow_cast-result : goal.overflow_cast-result
+overflow_cast-result c =
     let word = c.args.word.now in
-    let i : ℕ = c.loop-byte.byte-index in
-    let v : ℕ = c.loop-byte.number in (
-      ap (λ d. v * 10 + d) c.from.ensures ∙ digit_more word i v c.loop-byte-test.true c.loop-byte.invariant.0,
-      digit_room i v c.from.result (omega (arith, c.if-not-is_ascii_digit.ensures.cases.1)) c.loop-byte.invariant.1,
-      c.loop-byte.invariant.2 ∙ digit_here word i c.loop-byte-test.true c.if-not-is_ascii_digit.ensures.cases.0 c.if-not-is_ascii_digit.ensures.cases.1,
-    )
+    let was = some_was (leb (length word) 19 && all_digits word) (written word) c.in_ok-read_decimal.field-0 c.in_ok-read_decimal.ensures in
+    omega (arith, was.1, digits_small word 9 c.if-word-gt-LONGEST_NUMBER.false (and_parts (leb (length word) 19) (all_digits word) was.0).1)
 
 pub returns : goal.returns
 returns c =
     let word = c.args.word.now in
-    let i : ℕ = c.loop-byte.byte-index in
-    let past : length word ≤ i = c.loop-byte-test.false in
-    let good : all_digits word ≡ true = c.loop-byte.invariant.2 ∙ ap all_digits (drop_all i word past) in
+    let was = some_was (leb (length word) 19 && all_digits word) (written word) c.in_ok-read_decimal.field-0 c.in_ok-read_decimal.ensures in
     record {
-      value =
-          ap Some (c.loop-byte.invariant.0 ∙ ap written (take_all i word past)) ∙ sym (all_good word (filled _ _ c.is_empty.ensures c.if-is_empty.false) c.if-word-gt-LONGEST_NUMBER.false good);
-      small = omega (arith, few_digits i 9 (omega arith));
+      value = c.in_ok-read_decimal.ensures ∙ same word (filled _ _ c.is_empty.ensures c.if-is_empty.false) c.if-word-gt-LONGEST_NUMBER.false;
+      small = omega (arith, was.1, digits_small word 9 c.if-word-gt-LONGEST_NUMBER.false (and_parts (leb (length word) 19) (all_digits word) was.0).1);
     }

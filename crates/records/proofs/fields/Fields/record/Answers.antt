@@ -1,21 +1,22 @@
-use Rattle.std.proofs.Common.{◌≡◌, ◌-◌, ◌*◌, ◌^◌, ◌≤◌, Bool, true, false, cond, ◌&&◌, eqb, ltb, sym, refl, ap, ◌∙◌, Ok, Err, Result, None, Some}
+use Rattle.std.proofs.Common.{◌≡◌, ◌-◌, ◌*◌, ◌^◌, ◌≤◌, Bool, true, false, cond, ◌&&◌, eqb, ltb, sym, refl, ap, ◌∙◌, Ok, Err, Result, None, Some, List, ℕ}
 use Rattle.std.specs.Prelude.{option_map}
 use Rattle.std.specs.Result.{result_ok}
+use Rattle.std.specs.Bool.{then_some}
 use Rattle.std.proofs.Math.Bool.{and-false}
 use Rattle.rules.specs.Lists.{digits_of}
 use Rattle.rules.specs.Loads.{kg_of, price_of}
-use Rattle.loads.specs.IntervalsOf.{interval_code}
-use Rattle.std.proofs.lemmas.Bool.{ltb-false}
-use Rattle.rules.specs.Records.{lawful, lawful_mark}
+use Rattle.rules.specs.Records.{Record as TheRecord, lawful, lawful_mark, numbered, unnumbered}
+use Rattle.std.proofs.lemmas.Bool.{ltb-false, eqb-true, eqb-false, eq-eqb}
 use Rattle.records.specs.declared.fields.Fields.{Fields}
 use Rattle.records.specs.declared.mark.Mark.{Mark}
 use Rattle.records.specs.declared.mark.NoMark.{NoMark}
+use Rattle.records.specs.declared.record.Record.{Record}
 use Rattle.records.specs.Meaning.{mark_says}
+use Rattle.loads.specs.IntervalsOf.{interval_code}
 use Rattle.records.specs.RecordsOf.{tare_kind_of, tare_value_of, record_of}
 use Rattle.records.specs.FieldsOf.{is_record, record_in}
 use Rattle.records.proofs.Lawful.{wrong_interval, wrong_tare, wrong_mark, wrong_net, wrong_price, same_record}
 use Rattle.records.proofs.fields.Fields.record.Goals as goal
-use Rattle.records.proofs.fields.Fields.record.Goals.{else-self-net-via-then-self-net+then-from-price+else-is_lawful, else-self-net-via-then-self-net+else-from-price, else-self-net-via-else-self-net}
 
 -- fields whose record is not lawful give none
 no_record : (f : Fields) → lawful (record_in f) ≡ false → None ≡ cond (is_record f) (Some (record_in f)) None
@@ -41,6 +42,23 @@ mark_was : (r : Result Mark NoMark) (m : Mark) → Some m ≡ result_ok r → So
 mark_was (Ok n) m e = cc
 mark_was (Err f) m e = cc
 
+-- what a test keeps of a record of the code
+kept_or_none : (b : Bool) (found : Record) → option_map record_of (then_some b found) ≡ cond b (Some (record_of found)) None
+kept_or_none true found = refl
+kept_or_none false found = refl
+
+-- a record that has the fields but for net and price: it is theirs where these agree too, and else theirs is not lawful
+module _ (f : Fields) (r : TheRecord) (net_is : r.net ≡ f.gross - f.tare) (price_is : r.price ≡ price_of (r.net * kg_of f.interval) f.unit_price)
+    (kind_is : f.kind ≡ 0xa1) (spare_is : f.spare ≡ 2 ^ 37 - 1) (same : f.net ≡ r.net → f.price ≡ r.price → r ≡ record_in f) where
+  is_kept : (a b : Bool) → eqb f.net r.net ≡ a → eqb f.price r.price ≡ b → cond (a && (b && lawful r)) (Some r) None ≡ cond (is_record f) (Some (record_in f)) None
+  is_kept false b e h = no_record f (wrong_net (record_in f) (λ q. eqb-false _ _ e (q ∙ sym net_is)))
+  is_kept true false e h =
+      no_record f (wrong_price (record_in f) (λ q. eqb-false _ _ h (q ∙ ap (λ n. price_of (n * kg_of f.interval) f.unit_price) (eqb-true _ _ e) ∙ sym price_is)))
+  is_kept true true e h =
+      ap (λ x. cond (lawful x) (Some x) None) (same (eqb-true _ _ e) (eqb-true _ _ h))
+      ∙ sym (ap (λ b. cond (b && (eqb f.spare (2 ^ 37 - 1) && lawful (record_in f))) (Some (record_in f)) None) (eq-eqb _ _ kind_is)
+      ∙ ap (λ b. cond (b && lawful (record_in f)) (Some (record_in f)) None) (eq-eqb _ _ spare_is))
+
 pub returns-in_err-from_code : goal.returns-in_err-from_code
 returns-in_err-from_code c =
     let f = c.args.self in
@@ -57,24 +75,22 @@ returns-in_err-ok c =
     ap (option_map record_of) c.from_residual-in_err-ok.ensures
     ∙ no_record f (wrong_mark (record_in f) (none_was (lawful_mark m) m (no_mark_was c.from_value.result c.in_err-ok.ensures.value ∙ c.from_value.ensures)))
 
-pub returns-else-self-net : goal.returns-else-self-net
-returns-else-self-net c =
+pub returns : goal.returns
+returns c =
     let f = c.args.self in
     let i = c.in_ok-from_code.field-0 in
     let t = c.in_ok-tare.field-0 in
+    let m = digits_of 64 8 f.mark in
+    let codes = c.in_ok-ok.field-0.codes in
+    let r : TheRecord = numbered f.number (unnumbered (interval_code i) f.gross (tare_kind_of t) (tare_value_of t) f.day f.minute f.unit_price codes) in
     let code : interval_code i ≡ f.interval = some_was (ltb f.interval 6) f.interval (interval_code i) c.in_ok-from_code.ensures in
     let says = c.in_ok-tare.ensures in
-    let net : c.net.result.0 ≡ f.gross - f.tare = c.net.ensures ∙ ap (λ n. f.gross - n) says.2 in
-    elim c.else-self-net.branch [
-      | else-self-net-via-else-self-net w ↦ no_record f (wrong_net (record_in f) (λ e. w.if-self-net.false (e ∙ sym net)))
-      | else-self-net-via-then-self-net+else-from-price w ↦ no_record f (wrong_price (record_in f) (λ e. w.if-from-price.false
-          (w.from.ensures ∙ e ∙ ap (λ n. price_of (n * kg_of f.interval) f.unit_price) (w.if-self-net.true ∙ c.net.ensures)
-          ∙ ap (λ k. price_of ((f.gross - tare_value_of t) * kg_of k) f.unit_price) (sym code) ∙ sym w.price.ensures)))
-      | else-self-net-via-then-self-net+then-from-price+else-is_lawful w ↦
-          let m = digits_of 64 8 f.mark in
-          let mark = some_was (lawful_mark m) m c.in_ok-ok.field-0.codes (mark_was c.from_value.result c.in_ok-ok.field-0 c.in_ok-ok.ensures.value ∙ c.from_value.ensures) in
-          let price : f.price ≡ price_of ((f.gross - tare_value_of t) * kg_of (interval_code i)) f.unit_price = sym w.from.ensures ∙ w.if-from-price.true ∙ w.price.ensures in
-          let same = same_record f.number f.day f.minute f.unit_price (interval_code i) f.interval f.gross (tare_kind_of t) f.tare_kind
-          (tare_value_of t) f.tare f.net f.price c.in_ok-ok.field-0.codes m code says.1 says.2 mark (w.if-self-net.true ∙ c.net.ensures) price in
-          no_record f (ap lawful (sym same) ∙ sym w.is_lawful.ensures ∙ w.if-is_lawful.false)
-    ]
+    let mark = some_was (lawful_mark m) m codes (mark_was c.from_value.result c.in_ok-ok.field-0 c.in_ok-ok.ensures.value ∙ c.from_value.ensures) in
+    let same : f.net ≡ r.net → f.price ≡ r.price → r ≡ record_in f =
+    λ net price. same_record f.number f.day f.minute f.unit_price (interval_code i) f.interval f.gross (tare_kind_of t) f.tare_kind (tare_value_of t) f.tare
+    f.net f.price codes m code says.1 says.2 mark net price in
+    ap (option_map record_of) c.then_some.ensures
+    ∙ kept_or_none c.agrees.result _
+    ∙ ap (λ b. cond b (Some r) None) c.agrees.ensures
+    ∙ is_kept f r (ap (λ n. f.gross - n) says.2) (ap (λ k. price_of (r.net * kg_of k) f.unit_price) code)
+    c.if-self-ne-KIND.false c.if-self-ne-SPARE.false same (eqb f.net r.net) (eqb f.price r.price) refl refl

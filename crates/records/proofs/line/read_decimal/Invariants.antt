@@ -1,9 +1,0 @@
-use Rattle.std.proofs.Common.{◌≡◌, ◌^◌, ◌<◌, take, drop}
-use Rattle.rules.specs.Terminal.{all_digits}
-use Rattle.records.specs.LinesOf.{digits_number}
-use Rattle.records.proofs.line.read_decimal.Given as goal
-
-abbrev pub invariant-loop-byte : goal.invariant-loop-byte
-invariant-loop-byte l =
-    (l.number ≡ digits_number (take l.byte-index l.text)) × (l.number < 10 ^ l.byte-index)
-    × (all_digits l.text ≡ all_digits (drop l.byte-index l.text))
