@@ -1,7 +1,8 @@
 //! Weighing, and the tare that is weighed.
 
-ghost use Rattle.std.specs.Prelude.{◌≡◌, pos, negsuc, ◌-ℤ◌, ◌≤ℤ◌, IfOk, unsigned_abs};
+ghost use Rattle.std.specs.Prelude.{◌≡◌, pos, ◌-ℤ◌, IfOk, unsigned_abs};
 ghost use Rattle.rules.specs.Terminal.{weigh as a_weigh, key as a_key, take_tare, gross as gross_by_rule, tare_value};
+ghost use Rattle.loads.specs.RoundedLoads.{IsRoundedLoad};
 ghost use Rattle.indicator.specs.Answers.{answer, ActsOn, first_of, ready_refusals, settled_refusals, load_refusals};
 ghost use Rattle.indicator.specs.Entries.{entries_of};
 
@@ -28,7 +29,7 @@ impl Indicator {
     fn gross(&self) -> Result<Intervals, IndicatorFault>
         ensures says { answer result ≡ first_of (settled_refusals self.now) }
         ensures gross { IfOk result (λ g. g.0 ≡ gross_by_rule self.now) }
-        ensures bounds { IfOk result (λ g. (negsuc 429496729 ≤ℤ g.0) × (g.0 ≤ℤ pos 429496730)) }
+        ensures bounds { IfOk result (λ g. IsRoundedLoad g.0) }
     {
         Ok(self.settled()?.above(self.zero))
     }
@@ -45,7 +46,7 @@ impl Indicator {
 
     /// The net weight of a gross weight.
     fn net(&self, gross: Intervals) -> Intervals
-        requires { (negsuc 429496729 ≤ℤ gross.0) × (gross.0 ≤ℤ pos 429496730) }
+        requires { IsRoundedLoad gross.0 }
         ensures { result.0 ≡ gross.0 -ℤ pos (tare_value self.now.tare) }
     {
         Intervals(gross.0 - i32::from(self.tare.weight().0))

@@ -2,3 +2,4 @@
 pub mod Roundings
 pub mod Joins
 pub mod Extents
+pub mod GoodSettings

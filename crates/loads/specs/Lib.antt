@@ -3,3 +3,5 @@ pub mod IntervalsOf
 pub mod WindowsOf
 pub mod ClassesOf
 pub mod SettingsOf
+pub mod RoundedLoads
+pub mod GoodSettings

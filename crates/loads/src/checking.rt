@@ -1,5 +1,5 @@
-ghost use Rattle.std.specs.Prelude.{◌≡◌, Ok, Err};
-ghost use Rattle.rules.specs.Settings.{Passed, checked, min_of};
+ghost use Rattle.std.specs.Prelude.{◌≡◌};
+ghost use Rattle.rules.specs.Settings.{checked, min_of};
 ghost use Rattle.loads.specs.ClassesOf.{class_number};
 ghost use Rattle.loads.specs.IntervalsOf.{interval_code};
 ghost use Rattle.loads.specs.SettingsOf.{settings_of, settings_fault_number, check_says};
@@ -38,8 +38,7 @@ impl Fault for SettingsFault {
 impl Settings {
     /// Checks the number of a class, an interval in kg and a largest load in intervals, in this order.
     pub fn check(class: u32, kg: u32, max: u32) -> Result<Settings, SettingsFault>
-        ensures says { checked class kg max ≡ check_says result }
-        ensures passed { elim result [ Ok s ↦ Passed (settings_of s) | Err _ ↦ Unit {0} ] }
+        ensures { checked class kg max ≡ check_says result }
     {
         let class = Class::try_from(class)?;
         let interval = Interval::from_kg(kg).ok_or(SettingsFault::Interval)?;
@@ -56,8 +55,7 @@ impl Settings {
 
     /// The class.
     pub fn class(self) -> Class
-        ensures value { class_number result ≡ (settings_of self).class }
-        ensures passed { Passed (settings_of self) }
+        ensures { class_number result ≡ (settings_of self).class }
     {
         self.class
     }

@@ -1,5 +1,7 @@
 ghost use Rattle.std.specs.Prelude.{◌≤◌};
-ghost use Rattle.loads.specs.ClassesOf.{class_bounds};
+ghost use Rattle.loads.specs.ClassesOf.{class_bounds, class_number};
+ghost use Rattle.loads.specs.IntervalsOf.{interval_code};
+ghost use Rattle.loads.specs.GoodSettings.{PassesCheck};
 
 use crate::class::Class;
 use crate::interval::Interval;
@@ -12,4 +14,5 @@ pub struct Settings {
     pub(crate) max: u16,
     ghost least: { (class_bounds class).least ≤ max },
     ghost most: { max ≤ (class_bounds class).most },
+    ghost good: { PassesCheck record { class = class_number class; interval = interval_code interval; max = max } },
 }

@@ -1,5 +1,6 @@
-ghost use Rattle.std.specs.Prelude.{◌≡◌, pos, negsuc, ◌-ℤ◌, ◌≤ℤ◌};
+ghost use Rattle.std.specs.Prelude.{◌≡◌, ◌-ℤ◌};
 ghost use Rattle.rules.specs.Loads.{rounded};
+ghost use Rattle.loads.specs.RoundedLoads.{IsRoundedLoad};
 
 use crate::rounding::nearest;
 
@@ -15,7 +16,7 @@ impl Tenths {
     /// This load above a zero, rounded to whole intervals: nearest, ties away from zero.
     pub fn above(self, zero: Tenths) -> Intervals
         ensures value { result.0 ≡ rounded (self.0 -ℤ zero.0) }
-        ensures bounds { (negsuc 429496729 ≤ℤ result.0) × (result.0 ≤ℤ pos 429496730) }
+        ensures bounds { IsRoundedLoad result.0 }
     {
         Intervals(nearest::<10>(i64::from(self.0) - i64::from(zero.0)) as i32)
     }

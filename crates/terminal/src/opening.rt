@@ -1,5 +1,4 @@
 ghost use Rattle.std.specs.Prelude.{◌≡◌, Option};
-ghost use Rattle.rules.specs.Settings.{Passed};
 ghost use Rattle.rules.specs.Terminal.{Indicator as TheIndicator, opening, done, acts};
 ghost use Rattle.rules.specs.Promise.{KeepsRecords};
 ghost use Rattle.rules.specs.Laws.{VerifiesWhatIsFound, PrintsWhatIsFound, FirstStoreIsAccepted};
@@ -24,7 +23,6 @@ impl<M: Medium> Terminal<M> {
     /// lawful record is stored (`accepts`).
     pub fn open(medium: M, settings: Settings) -> Terminal<M>
         ensures opens { (on : Option TheIndicator) → acts (opening (settings_of settings)) (world_with M.rows M.count medium on) ≡ (done, world M.rows M.count result) }
-        ensures passed { Passed (settings_of settings) }
         ensures medium { result.medium ≡ medium }
         ensures law { KeepsRecords }
         ensures confirms { VerifiesWhatIsFound }
@@ -39,8 +37,7 @@ impl<M: Medium> Terminal<M> {
 
     /// Opens again over the same medium, as it then is: all but the medium is lost, a weighing that is pending included.
     pub fn reopen(&mut self, settings: Settings)
-        ensures opens { ActsAlone M.rows M.count (opening (settings_of settings)) self.old done self.new }
-        ensures passed { Passed (settings_of settings) }
+        ensures { ActsAlone M.rows M.count (opening (settings_of settings)) self.old done self.new }
     {
         self.indicator = Indicator::open(settings);
     }

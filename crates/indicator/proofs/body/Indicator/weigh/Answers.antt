@@ -3,6 +3,7 @@ use Rattle.rules.specs.Settings.{Passed}
 use Rattle.rules.specs.Terminal.{done, pending, with_state, weigh_refusals}
 use Rattle.rules.proofs.Refusals.{passes_unless}
 use Rattle.rules.proofs.Weighings.{TareFits, weighed_lawful}
+use Rattle.loads.proofs.GoodSettings.{are_good}
 use Rattle.records.specs.WeighingsOf.{weighing_says}
 use Rattle.indicator.specs.Meaning.{meaning}
 use Rattle.indicator.specs.StatesOf.{state_of}
@@ -24,7 +25,7 @@ pub unwrap-requires : goal.unwrap-requires
 unwrap-requires c =
     let i = c.args.self.now in
     let e = entries_of c.args.entered in
-    let passed : Passed i.settings = rw (← c.self.view_is) (search rules) in
+    let passed : Passed i.settings = rw (← c.self.view_is) (are_good c.self.inside.settings) in
     let fits : TareFits i.settings.max i.tare = rw (← c.self.view_is) (tare_fits c.self.inside.tare _ c.self.invariant.0 c.self.invariant.1) in
     let tests = nothing_refuses i e c.in_ok-mark.ensures.says c.in_ok-check_ready.ensures c.in_ok-gross.ensures.says in
     let ok = weighed_lawful i e passed fits (omega arith) tests 1 (omega arith) (omega arith) in

@@ -7,7 +7,6 @@ use Rattle.terminal.proofs.body.Terminal.open.Goals as goal
 pub returns : goal.returns
 returns g c = record {
   opens = search rules;
-  passed = search rules;
   medium = search rules;
   law = keeps_records;
   confirms = verifies_what_is_found;
