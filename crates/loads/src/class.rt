@@ -32,6 +32,7 @@ const CLASSES: [ClassBounds; 2] = [
     },
 ];
 
+// No `From`: a class has a number and three bounds, and the name of the function says which is meant.
 impl Class {
     /// The number of the class, 3 or 4.
     pub fn number(self) -> u8

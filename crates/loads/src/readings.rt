@@ -81,6 +81,7 @@ impl Window {
     pub fn mean(&self) -> Option<Tenths>
         ensures { option_map tenths_of result ≡ (if nat_eq (length (window_of self.now)) 8 then Some (mean_of (window_of self.now)) else None) }
     {
+        // no `then_some`: only of eight samples is it known that their mean fits
         if self.is_full() {
             Some(Tenths(nearest::<8>(Extent::of(self.samples).sum) as i32))
         } else {

@@ -81,6 +81,7 @@ impl Reader {
         }
     }
 
+    // By index: a field reaches into one more word at most, and that word is known by its place.
     /// The value of the next field.
     pub(crate) fn take(&mut self, field: Field) -> u64
         requires enough { width_of field ≤ bits_unread self.old }
@@ -136,6 +137,7 @@ impl Writer {
         }
     }
 
+    // By index, as in `Reader`.
     /// One field more.
     pub(crate) fn put(&mut self, field: Field, value: u64)
         requires fits { value < 2 ^ width_of field }

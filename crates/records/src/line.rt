@@ -40,6 +40,7 @@ impl Tare {
     }
 }
 
+// No `Display`: its 76 bytes are promised one by one, and a formatter has no clause for what it writes.
 impl Record {
     /// The ticket line: 76 bytes of ASCII with a line feed at the end; weights in kg.
     pub fn line(self) -> [u8; 76]

@@ -76,6 +76,7 @@ impl Mark {
         }
     }
 
+    // Not by `TryFrom`: these are characters, and the name tells them from codes.
     /// The mark that was typed, filled up with spaces; refused unless it is 1 to 8 capital letters and digits, and spaces only behind them.
     pub fn typed(bytes: &[u8]) -> Result<Mark, NoMark>
         ensures { mark_says result ≡ (if lawful_mark (typed_mark bytes.now) then Some (typed_mark bytes.now) else None) }
@@ -91,6 +92,7 @@ impl Mark {
         Mark::from_codes(codes)
     }
 
+    // No `From`: the number stays within this crate, as the codes do.
     /// The eight codes as one number of 48 bits, the first code first.
     pub(crate) fn value(self) -> u64
         ensures value { result ≡ number_of 64 0 (codes_of self) }

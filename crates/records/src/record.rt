@@ -17,6 +17,7 @@ pub enum Tare {
     Preset(Weight),
 }
 
+// No `From`: a tare has a kind and a weight, both numbers, and the name of the function says which is meant.
 impl Tare {
     /// The tare, 0 where there is none.
     pub fn weight(self) -> Weight

@@ -36,6 +36,7 @@ pub enum Damage {
 pub struct Unlawful;
 
 /// Whether all bits are ones.
+// Not by `is_blank`: the judge has the row in four words, and in 32 bytes it would look eight times as often.
 fn are_ones(words: [u64; 4]) -> bool
     ensures { result ≡ same words (replicate 4 (2 ^ 64 - 1)) }
 {
@@ -74,6 +75,7 @@ pub fn judge(row: &[u8; 32]) -> Verdict
         .map_or(Verdict::Damaged(Damage::Fields), Verdict::Intact)
 }
 
+// Not by a trait: the row is one of several texts of a record, and the name says which.
 impl Record {
     /// The row of the record; refused unless the record is lawful.
     pub fn pack(self) -> Result<[u8; 32], Unlawful>

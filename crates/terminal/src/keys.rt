@@ -11,6 +11,7 @@ use indicator::{Entered, IndicatorFault};
 use loads::{Intervals, Tenths};
 use media::Medium;
 
+// They only pass on: what the indicator does is done by the terminal, whose memory stays as it is.
 impl<M: Medium> Terminal<M> {
     /// Takes a load of the cell.
     pub fn sample(&mut self, load: Tenths) -> Result<(), IndicatorFault>

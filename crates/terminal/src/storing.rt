@@ -60,6 +60,7 @@ impl<M: Medium> Terminal<M> {
     {
         let number = line_number(text).ok_or(StoreFault::NoLine)?;
         let found = look_up(&self.medium, number)?;
+        // no `ok_or`: here a place is the refusal, and none the acceptance
         match difference(text, &found.line()) {
             Some(place) => Err(StoreFault::Differs(place)),
             None => Ok(()),
