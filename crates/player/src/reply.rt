@@ -1,10 +1,10 @@
 //! What a line of a trace writes.
 
 ghost use Rattle.std.specs.Prelude.{◌≡◌};
-ghost use Rattle.rules.specs.Tickets.{decimal};
 ghost use Rattle.rules.specs.Replay.{refusal_line};
 ghost use Rattle.player.specs.Replies.{bytes_of};
 
+use records::decimal;
 use rules::Fault;
 
 /// What a line of a trace writes.
@@ -15,28 +15,13 @@ pub enum Reply {
     Refusal([u8; 11]),
 }
 
-/// The last digits of a number, in ASCII, with leading zeros.
-// The lines of `records` have such digits too; one function for both would be public in a crate that the player has no other use for.
-fn digits<const N: usize>(number: usize) -> [u8; N]
-    ensures { result ≡ decimal N number }
-{
-    let mut digits = [b'0'; N];
-    let mut rest = number;
-    for digit in digits.iter_mut() {
-        *digit = (rest % 10) as u8 + b'0';
-        rest /= 10;
-    }
-    digits.reverse();
-    digits
-}
-
 impl Reply {
     /// The line of a refusal: E, its number in two digits, and the line of the trace in five.
     pub fn refusal(number: u8, line: usize) -> Reply
         ensures { bytes_of result ≡ refusal_line number line }
     {
-        let [tens, ones] = digits::<2>(usize::from(number));
-        let [a, b, c, d, e] = digits::<5>(line);
+        let [tens, ones] = decimal::<2>(u64::from(number));
+        let [a, b, c, d, e] = decimal::<5>(line as u64);
         Reply::Refusal([b'E', b' ', tens, ones, b' ', a, b, c, d, e, b'\n'])
     }
 

@@ -1,6 +1,6 @@
 -- A trace: text in lines, each of which asks a terminal for something
-use Rattle.std.specs.Prelude.{ℕ, ◌+◌, ◌-◌, cond, ◌&&◌, List, [], ◌∷◌, map, length, ℤ, pos, neg_ℤ, ◌==◌, nat_le, Option, None, Some}
-use Rattle.rules.specs.Lists.{when_some, number_of}
+use Rattle.std.specs.Prelude.{ℕ, ◌+◌, cond, ◌&&◌, List, [], ◌∷◌, length, ℤ, pos, neg_ℤ, ◌==◌, nat_le, Option, None, Some}
+use Rattle.rules.specs.Lists.{when_some}
 use Rattle.rules.specs.Terminal.{Key, set_zero, take_tare, clear_tare, preset_tare, Entries, all_digits, written}
 
 -- ---- Lines

@@ -1,6 +1,6 @@
 use Rattle.std.proofs.Common.{◌≡◌, ℕ, ◌+◌, ◌*◌, ◌≤◌, Bool, true, false, cond, ◌&&◌, leb, List, length, sym, refl, ap, ◌∙◌, arith, None, Some}
 use Rattle.std.proofs.lemmas.List.{take_all, drop_all}
-use Rattle.std.proofs.lemmas.Bool.{le-leb, lt-leb}
+use Rattle.std.proofs.lemmas.Bool.{le-leb}
 use Rattle.rules.specs.Lists.{number_of}
 use Rattle.rules.specs.Terminal.{all_digits, written}
 use Rattle.rules.proofs.Decimals.{digit_more, digit_room, few_digits, digit_here, none_here}
