@@ -68,10 +68,10 @@ impl<M: Medium + Drop> Weighbridge<'_, M> {
     }
 
     /// Stores what was weighed, and voids what is not stored.
+    // Not shared: each program does another thing with the claim, and the edits of misuse/ are planted in these arms.
     fn store(&mut self, claim: Claim) -> io::Result<()> {
         let lines = self.lines;
-        // A match: a claim is linear, and `?` and `ok_or` would take it where it is still needed. It is no call that others share,
-        // since each does another thing with the claim, and the edits of misuse/ let it go, or store it again, in these arms.
+        // A match: a claim is linear, and `?` and `ok_or` would take it where it is still needed.
         match self.terminal.store(claim) {
             Ok(number) => lines.tell(format_args!("weighed and stored under number {number}")),
             Err((claim, fault)) => {
