@@ -12,21 +12,20 @@ use tours::{Calls, Tour, Visit, example, tour_both};
 /// Writes what is found in a memory.
 fn tell<M: Medium + Drop>(memory: &Visit<'_, M>) -> io::Result<()> {
     // Calls in a row and not a value that is shown: each line is what one call of the memory answers.
-    let m = &memory.medium;
-    let lines = memory.lines;
-    match newest(m) {
+    let Visit { lines, medium } = memory;
+    match newest(medium) {
         Some(Entry { row, weighing }) => lines.tell(format_args!(
             "newest {} of day {} in row {row}",
             weighing.number, weighing.day
         ))?,
         None => lines.tell("no record")?,
     }
-    match check_order(m) {
+    match check_order(medium) {
         Ok(()) => lines.tell("in order")?,
         Err(fault) => lines.tell(format_args!("refused {} at {}", fault.number(), fault.place()))?,
     }
-    let number = next_number(m);
-    match next_row(m) {
+    let number = next_number(medium);
+    match next_row(medium) {
         Some(row) => lines.tell(format_args!("next number {number}, next row {row}")),
         None => lines.tell(format_args!("next number {number}, full")),
     }

@@ -140,8 +140,7 @@ impl Tour for OneLorry {
         };
         lines.tell("opened")?;
         bridge.serve()?;
-        let Weighbridge { terminal, .. } = bridge;
-        lines.tell(format_args!("writes: {}", terminal.close().writes()))
+        lines.tell(format_args!("writes: {}", bridge.terminal.close().writes()))
     }
 }
 
