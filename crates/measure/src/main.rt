@@ -3,6 +3,11 @@
 
 #![tactic(auto)]
 
+ghost use Rattle.std.specs.Prelude.{◌≡◌, true};
+ghost use Rattle.rules.specs.Records.{lawful};
+ghost use Rattle.rules.specs.Rows.{packing};
+ghost use Rattle.records.specs.RecordsOf.{record_of};
+
 use anyhow::{Context, anyhow};
 use records::{Record, Verdict, judge};
 use std::alloc::Global;
@@ -46,7 +51,7 @@ impl Work {
     }
 
     /// One round of the work.
-    fn round(self, heap: Global, all: &[Record], rows: &[[u8; 32]]) -> anyhow::Result<u64> {
+    fn round(self, heap: Global, all: &[Sample], rows: &[[u8; 32]]) -> anyhow::Result<u64> {
         match self {
             Work::Intact | Work::Blank | Work::Torn => Ok(count_intact(rows)),
             Work::Pack => Ok(sum_packed(all)),
@@ -55,18 +60,36 @@ impl Work {
     }
 }
 
+/// A record that may be stored.
+#[derive(Clone, Copy)]
+struct Sample {
+    held: Record,
+    ghost lawful: { lawful (record_of held) ≡ true },
+}
+
+impl Sample {
+    /// Its row.
+    fn row(&self) -> [u8; 32]
+        ensures { result ≡ packing (record_of self.now.held) }
+    {
+        self.held.pack().unwrap()
+    }
+}
+
 /// The records 1 to 64.
-fn samples(heap: Global) -> anyhow::Result<Vec<Record>> {
-    Ok((1..65).map(|number| example(number, 9500)).collect(heap)?)
+fn samples(heap: Global) -> anyhow::Result<Vec<Sample>> {
+    let mut all = Vec::with_capacity(heap, 64)?;
+    for number in 1..=64 {
+        all.push(Sample {
+            held: example(number, 9500),
+        })?;
+    }
+    Ok(all)
 }
 
 /// Their rows.
-fn packed(heap: Global, all: &[Record]) -> anyhow::Result<Vec<[u8; 32]>> {
-    Ok(
-        all.iter()
-            .filter_map(|found| found.pack().ok())
-            .collect(heap)?,
-    )
+fn packed(heap: Global, all: &[Sample]) -> anyhow::Result<Vec<[u8; 32]>> {
+    Ok(all.iter().map(Sample::row).collect(heap)?)
 }
 
 /// How many of the rows are intact.
@@ -77,24 +100,24 @@ fn count_intact(rows: &[[u8; 32]]) -> u64 {
 }
 
 /// The sum of the last bytes of the records' rows.
-fn sum_packed(all: &[Record]) -> u64 {
-    all.iter()
-        .filter_map(|found| found.pack().ok())
-        .fold(0u64, |sum, row| sum.saturating_add(u64::from(row[31])))
+fn sum_packed(all: &[Sample]) -> u64 {
+    all.iter().fold(
+        0u64,
+        |sum, sample| sum.saturating_add(u64::from(sample.row()[31])),
+    )
 }
 
 /// The length of the records' lines, one after another.
-fn write_lines(heap: Global, all: &[Record]) -> anyhow::Result<u64> {
+fn write_lines(heap: Global, all: &[Sample]) -> anyhow::Result<u64> {
     let mut text = Vec::with_capacity(heap, 4864)?;
-    for found in all {
-        text.extend_from_slice(&found.line())?;
+    for sample in all {
+        text.extend_from_slice(&sample.held.line())?;
     }
     Ok(text.len() as u64)
 }
 
-fn run(rt: &HostRuntime) -> anyhow::Result<()> {
-    let mut words = env::args(rt)?;
-    let _ = words.next();
+fn main(rt: HostRuntime) -> anyhow::Result<()> {
+    let mut words = env::args(&rt)?.skip(1);
     let work = words
         .next()
         .context("what to do?")?
@@ -114,8 +137,4 @@ fn run(rt: &HostRuntime) -> anyhow::Result<()> {
     }
     println!(rt; "{sum}")?;
     Ok(())
-}
-
-fn main(rt: HostRuntime) -> anyhow::Result<()> {
-    run(&rt)
 }

@@ -1,21 +1,21 @@
 //! Makes one call of a terminal over a nearly full memory, for an instruction counter to watch.
 //! Arguments: the call (store, print, verify, release or none), the kind of medium (flash or sectors), and the number of pages.
-//! It writes what was answered. The instructions of a call are those of its run less those of the run with none.
+//! It writes what was answered; a refusal is an error. The instructions of a call are those of its run less those of the run with none.
 
 #![tactic(auto)]
 
 use anyhow::{Context, Error, anyhow};
 use indicator::Entered;
-use loads::{Settings, Tenths};
-use media::{Cells, Flash, Medium, Sectors};
+use loads::Tenths;
+use media::{Cells, Flash, Medium, MediumFault, Sectors};
 use rules::Fault;
 use std::env;
 use std::str::FromStr;
 use terminal::{Claim, StoreFault, Terminal};
-use tours::example;
+use tours::{example, settings};
 
 /// The call that is made, or none.
-#[derive(Clone, Copy, PartialEq, Eq)]
+#[derive(Clone, Copy)]
 enum Call {
     Store,
     Print,
@@ -40,6 +40,7 @@ impl FromStr for Call {
 }
 
 /// The kind of the medium.
+// A trace's `MediumKind` has the same two, but this program has no other use for a reader of traces.
 #[derive(Clone, Copy)]
 enum Kind {
     Flash,
@@ -61,17 +62,22 @@ impl FromStr for Kind {
 /// The day of the records that are there already.
 const EARLIER: u16 = 9000;
 
+/// The error that tells the number of a fault.
+fn refused<F: Fault>(fault: F) -> Error {
+    anyhow!("refused {}", fault.number())
+}
+
 /// Programs records into all rows but the last two.
-fn fill<M: Medium>(medium: &mut M) {
-    let rows = medium.size() * 16 - 2;
-    for (row, number) in (0..rows).zip(1..=u32::MAX) {
-        if let Ok(packed) = example(number, EARLIER).pack() {
-            let _ = medium.program(row, &packed);
-        }
+fn fill<M: Medium>(medium: &mut M) -> Result<(), MediumFault> {
+    for row in 0..medium.size() * 16 - 2 {
+        let packed = example(row as u32 + 1, EARLIER).pack().unwrap();
+        medium.program(row, &packed)?;
     }
+    Ok(())
 }
 
 /// Stores the weighing that is pending, and voids it where it is refused.
+// Not shared: each program does another thing with the claim, and the edits of misuse/ are planted where a lorry is weighed once.
 fn store<M: Medium>(terminal: &mut Terminal<M>, claim: Claim) -> Result<u64, StoreFault> {
     terminal.store(claim).map(u64::from).map_err(|(claim, fault)| {
         terminal.void(claim);
@@ -86,31 +92,38 @@ fn make<M: Medium>(
     call: Call,
     line: &mut [u8; 76],
 ) -> Result<u64, StoreFault> {
-    if call == Call::Store {
-        return store(terminal, claim);
-    }
-    terminal.void(claim);
     match call {
+        Call::Store => store(terminal, claim),
         Call::Print => {
+            terminal.void(claim);
             terminal.print(20, line)?;
             Ok(u64::from(line[9]))
         }
-        Call::Verify => terminal.verify(line).map(|()| 1),
-        Call::Release => terminal
-            .release(EARLIER, 9500, None)
-            .map(|pages| pages as u64),
-        Call::Store | Call::Nothing => Ok(0),
+        Call::Verify => {
+            terminal.void(claim);
+            terminal.verify(line).map(|()| 1)
+        }
+        Call::Release => {
+            terminal.void(claim);
+            terminal
+                .release(EARLIER, 9500, None)
+                .map(|pages| pages as u64)
+        }
+        Call::Nothing => {
+            terminal.void(claim);
+            Ok(0)
+        }
     }
 }
 
-/// Opens a terminal, weighs a lorry, and makes the call: what it answers, or the number of its refusal.
-fn run<M: Medium + Drop>(mut medium: M, settings: Settings, call: Call) -> u64 {
-    fill(&mut medium);
+/// Opens a terminal, weighs a lorry, and makes the call: what it answers.
+fn run<M: Medium + Drop>(mut medium: M, call: Call) -> anyhow::Result<u64> {
+    fill(&mut medium).map_err(refused)?;
     let mut line = example(20, EARLIER).line();
-    let mut terminal = Terminal::open(medium, settings);
-    let _ = terminal.sample(Tenths(0));
+    let mut terminal = Terminal::open(medium, settings());
+    terminal.sample(Tenths(0)).map_err(refused)?;
     for _ in 0..8 {
-        let _ = terminal.sample(Tenths(12430));
+        terminal.sample(Tenths(12430)).map_err(refused)?;
     }
     let entered = Entered {
         day: 9500,
@@ -118,36 +131,27 @@ fn run<M: Medium + Drop>(mut medium: M, settings: Settings, call: Call) -> u64 {
         mark: b"KL4420",
         unit_price: 18555,
     };
-    let Ok(claim) = terminal.weigh(entered) else {
-        return 0;
-    };
-    make(&mut terminal, claim, call, &mut line).unwrap_or_else(|fault| u64::from(fault.number()))
+    let claim = terminal.weigh(entered).map_err(refused)?;
+    make(&mut terminal, claim, call, &mut line).map_err(refused)
 }
 
 /// The call over so many blank pages of a kind.
 fn measure(cells: &mut [u8], kind: Kind, call: Call) -> anyhow::Result<u64> {
-    let settings = Settings::check(3, 20, 3000).ok().context("no settings")?;
     let cells = Cells::check(cells).ok().context("2 to 64 pages")?;
-    Ok(match kind {
-        Kind::Flash => run(Flash::over(cells), settings, call),
-        Kind::Sectors => run(Sectors::over(cells), settings, call),
-    })
+    match kind {
+        Kind::Flash => run(Flash::over(cells), call),
+        Kind::Sectors => run(Sectors::over(cells), call),
+    }
 }
 
 fn main(rt: HostRuntime) -> anyhow::Result<()> {
-    let mut words = env::args(&rt)?;
-    let _ = words.next();
+    let mut words = env::args(&rt)?.skip(1);
     let call = words.next().context("which call?")?;
     let kind = words.next().context("which kind?")?;
     let pages = words.next().context("how many pages?")?;
     let pages = pages.as_str().parse::<u16>()?;
-    let mut cells = [0xFF; 32_768];
-    let size = usize::from(pages.min(64)) * 512;
-    let answer = measure(
-        &mut cells[..size],
-        kind.as_str().parse()?,
-        call.as_str().parse()?,
-    )?;
+    let mut cells = vec![in rt.alloc(); 0xFF; usize::from(pages.min(64)) * 512]?;
+    let answer = measure(&mut cells, kind.as_str().parse()?, call.as_str().parse()?)?;
     println!(rt; "{answer}")?;
     Ok(())
 }

@@ -2,9 +2,10 @@
 
 #![tactic(auto)]
 
-use media::{Cells, Flash, Medium, MediumFault, Sectors, check_bytes};
+use media::{Medium, MediumFault, check_bytes};
 use rules::Fault;
 use std::{fmt, io};
+use tours::{Tour, Visit, tour_both};
 
 /// One call of a medium.
 #[derive(Clone, Copy)]
@@ -25,6 +26,7 @@ impl fmt::Display for Step {
 }
 
 /// What is done to both media.
+// A table of data, matched once: a type for each form of call would say the same in more places.
 const STEPS: [Step; 18] = [
     Step::Read(3),
     Step::Program(0, 0xA1),
@@ -64,22 +66,23 @@ fn act<M: Medium>(medium: &mut M, step: Step) -> Result<u8, MediumFault> {
 }
 
 /// Does every step, and writes the answers, the size and the count of writes.
-fn tour<M: Medium>(rt: &HostRuntime, kind: &str, medium: &mut M) -> io::Result<()> {
-    for step in STEPS {
-        match act(medium, step) {
-            Ok(first) => println!(rt; "{kind}: {step}: {first:02X}")?,
-            Err(fault) => println!(rt;
-                "{kind}: {step}: refused {} at {}",
-                fault.number(),
-                fault.place()
-            )?,
+struct Steps;
+
+impl Tour for Steps {
+    fn visit<M: Medium + Drop>(visit: Visit<'_, M>) -> io::Result<()> {
+        let Visit { lines, mut medium } = visit;
+        for step in STEPS {
+            match act(&mut medium, step) {
+                Ok(first) => lines.tell(format_args!("{step}: {first:02X}"))?,
+                Err(fault) => lines.tell(format_args!(
+                    "{step}: refused {} at {}",
+                    fault.number(),
+                    fault.place()
+                ))?,
+            }
         }
+        lines.tell(format_args!("{} pages, {} writes", medium.size(), medium.writes()))
     }
-    println!(rt;
-        "{kind}: {} pages, {} writes",
-        medium.size(),
-        medium.writes()
-    )
 }
 
 /// Bytes of any content, with two rows that are not blank.
@@ -91,19 +94,12 @@ fn content() -> [u8; 1024] {
 }
 
 fn main(rt: HostRuntime) -> io::Result<()> {
-    let mut one = content();
-    let mut other = content();
+    let bytes = content();
     for size in [0, 512, 1000, 1024] {
-        match check_bytes(&one[0..size]) {
+        match check_bytes(&bytes[..size]) {
             Ok(()) => println!(rt; "{size} bytes pass")?,
             Err(fault) => println!(rt; "{size} bytes are refused {}", fault.number())?,
         }
     }
-    let mut flash = Flash::over(Cells::check(&mut one).unwrap());
-    tour(&rt, "flash", &mut flash)?;
-    drop(flash);
-    let mut sectors = Sectors::over(Cells::check(&mut other).unwrap());
-    tour(&rt, "sectors", &mut sectors)?;
-    drop(sectors);
-    println!(rt; "the bytes are equal: {}", one == other)
+    tour_both::<Steps>(&rt, bytes)
 }

@@ -11,22 +11,23 @@ use tours::{Calls, Tour, Visit, example, tour_both};
 
 /// Writes what is found in a memory.
 fn tell<M: Medium + Drop>(memory: &Visit<'_, M>) -> io::Result<()> {
-    let m = &memory.medium;
-    match newest(m) {
-        Some(Entry { row, weighing }) => memory.tell(format_args!(
+    // Calls in a row and not a value that is shown: each line is what one call of the memory answers.
+    let Visit { lines, medium } = memory;
+    match newest(medium) {
+        Some(Entry { row, weighing }) => lines.tell(format_args!(
             "newest {} of day {} in row {row}",
             weighing.number, weighing.day
         ))?,
-        None => memory.tell("no record")?,
+        None => lines.tell("no record")?,
     }
-    match check_order(m) {
-        Ok(()) => memory.tell("in order")?,
-        Err(fault) => memory.tell(format_args!("refused {} at {}", fault.number(), fault.place()))?,
+    match check_order(medium) {
+        Ok(()) => lines.tell("in order")?,
+        Err(fault) => lines.tell(format_args!("refused {} at {}", fault.number(), fault.place()))?,
     }
-    let number = next_number(m);
-    match next_row(m) {
-        Some(row) => memory.tell(format_args!("next number {number}, next row {row}")),
-        None => memory.tell(format_args!("next number {number}, full")),
+    let number = next_number(medium);
+    match next_row(medium) {
+        Some(row) => lines.tell(format_args!("next number {number}, next row {row}")),
+        None => lines.tell(format_args!("next number {number}, full")),
     }
 }
 
@@ -66,5 +67,5 @@ impl Tour for Appends {
 }
 
 fn main(rt: HostRuntime) -> io::Result<()> {
-    tour_both::<Appends>(&rt)
+    tour_both::<Appends>(&rt, [0xFF; 1024])
 }

@@ -39,5 +39,5 @@ impl Tour for Stores {
 }
 
 fn main(rt: HostRuntime) -> io::Result<()> {
-    tour_both::<Stores>(&rt)
+    tour_both::<Stores>(&rt, [0xFF; 1024])
 }

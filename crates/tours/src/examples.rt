@@ -1,10 +1,11 @@
 ghost use Rattle.std.specs.Prelude.{◌≡◌, ◌≤◌, codes, true};
 ghost use Rattle.rules.specs.Records.{typed_mark, lawful};
-ghost use Rattle.rules.specs.Cases.{a_record};
+ghost use Rattle.rules.specs.Cases.{a_record, some_settings};
+ghost use Rattle.loads.specs.SettingsOf.{settings_of};
 ghost use Rattle.records.specs.Meaning.{codes_of};
 ghost use Rattle.records.specs.RecordsOf.{record_of};
 
-use loads::Interval;
+use loads::{Interval, Settings};
 use records::{Mark, Record, Tare, Weight};
 
 /// The example's mark.
@@ -31,4 +32,11 @@ pub fn example(number: u32, day: u16) -> Record
         unit_price: 18555,
         mark: mark(),
     }
+}
+
+/// The settings of the rules' worked case.
+pub fn settings() -> Settings
+    ensures { settings_of result ≡ some_settings }
+{
+    Settings::check(3, 20, 3000).unwrap()
 }

@@ -1,31 +1,24 @@
 ghost use Rattle.std.specs.Prelude.{◌≡◌, ℕ, ◌+◌, ◌≤◌, IfOk};
 ghost use Rattle.memory.specs.Releases.{releases};
 
+use crate::lines::Lines;
 use media::{Cells, Flash, Medium, Sectors};
 use memory::{MemoryFault, release};
 use records::Record;
-use rules::Fault;
-use std::fmt::Display;
 use std::io;
 
-/// A memory that is visited; each line that is written of it begins with the kind of its medium.
+/// A medium that is visited, and the lines that are written of it.
 #[derive(Drop)]
 pub struct Visit<'a, M: Medium + Drop> {
-    rt: &'a HostRuntime,
-    kind: &'a str,
+    pub lines: Lines<'a>,
     pub medium: M,
 }
 
 impl<M: Medium + Drop> Visit<'_, M> {
-    /// Writes a line.
-    pub fn tell<D: Display + Drop>(&self, what: D) -> io::Result<()> {
-        let kind = self.kind;
-        println!(self.rt; "{kind}: {what}")
-    }
-
     /// Writes how often the medium was written.
     pub fn tell_writes(&self) -> io::Result<()> {
-        self.tell(format_args!("{} writes", self.medium.writes()))
+        self.lines
+            .tell(format_args!("{} writes", self.medium.writes()))
     }
 
     /// Releases up to a day, and writes how many pages were erased.
@@ -34,18 +27,18 @@ impl<M: Medium + Drop> Visit<'_, M> {
         ensures lender { M.lender self.new.medium ≡ M.lender self.old.medium }
     {
         let erased = release(&mut self.medium, day);
-        self.tell(format_args!("release for day {day}: pages erased {erased}"))
+        self.lines.tell(format_args!("release for day {day}: pages erased {erased}"))
     }
 
     /// Looks for some numbers, and writes the days of their records.
     pub fn tell_found<C: Calls>(&self, numbers: &[u64]) -> io::Result<()> {
         for &number in numbers {
+            let what = format_args!("record {number}");
             match C::find(&self.medium, number) {
-                Ok(found) => self.tell(format_args!("record {number} is of day {}", found.day))?,
-                Err(fault) => self.tell(format_args!(
-                    "record {number}: refused {}",
-                    fault.number()
-                ))?,
+                Ok(found) => self
+                    .lines
+                    .tell(format_args!("{what} is of day {}", found.day))?,
+                Err(fault) => self.lines.tell_refused(what, fault)?,
             }
         }
         Ok(())
@@ -59,7 +52,7 @@ impl<M: Medium + Drop> Visit<'_, M> {
         let end = first.saturating_add(100);
         for day in first..end {
             if let Err(fault) = C::store(&mut self.medium, day) {
-                self.tell(format_args!("day {day}: refused {}", fault.number()))?;
+                self.lines.tell_refused(format_args!("day {day}"), fault)?;
                 return Ok(day);
             }
         }
@@ -77,27 +70,26 @@ pub trait Calls {
     fn find<M: Medium>(memory: &M, number: u64) -> Result<Record, MemoryFault>;
 }
 
-/// A tour of a memory, over whatever medium.
+/// A tour of a medium, of whatever kind.
 pub trait Tour {
-    /// Visits a memory, from blank rows on.
-    fn visit<M: Medium + Drop>(memory: Visit<'_, M>) -> io::Result<()>;
+    /// Visits a medium, from its first content on.
+    fn visit<M: Medium + Drop>(visit: Visit<'_, M>) -> io::Result<()>;
 }
 
-/// Makes a tour over flash and over sectors of 1,024 blank bytes each, and writes whether the bytes are the same in the end.
-pub fn tour_both<T: Tour>(rt: &HostRuntime) -> io::Result<()> {
-    let mut one = [0xFF; 1024];
-    let mut other = [0xFF; 1024];
-    let flash = Flash::over(Cells::check(&mut one).unwrap());
+/// Makes a tour over flash and over sectors of this content, and writes whether the bytes are the same in the end.
+pub fn tour_both<T: Tour>(rt: &HostRuntime, content: [u8; 1024]) -> io::Result<()> {
+    let mut one = content;
+    let mut other = content;
     T::visit(Visit {
-        rt,
-        kind: "flash",
-        medium: flash,
+        lines: Lines { rt, kind: "flash" },
+        medium: Flash::over(Cells::check(&mut one).unwrap()),
     })?;
-    let sectors = Sectors::over(Cells::check(&mut other).unwrap());
     T::visit(Visit {
-        rt,
-        kind: "sectors",
-        medium: sectors,
+        lines: Lines {
+            rt,
+            kind: "sectors",
+        },
+        medium: Sectors::over(Cells::check(&mut other).unwrap()),
     })?;
     println!(rt; "the bytes are equal: {}", one == other)
 }
