@@ -27,6 +27,7 @@ impl<'a> Cells<'a> {
         ensures bytes { IfOk result (λ cells. bytes_of cells ≡ bytes.old) }
         ensures lender { IfOk result (λ cells. lender_of cells ≡ bytes.entry.ghost_name) }
     {
+        // no clause for refused bytes, which stay as they are: none is proved where a lent slice goes into the result itself
         check_bytes(&*bytes)?;
         Ok(Cells { bytes, writes: 0 })
     }

@@ -11,7 +11,7 @@ use crate::medium::{Medium, MediumFault};
 const ERASED: [u8; 512] = [0xFF; 512];
 
 /// Rewritable sectors: every write rewrites one page whole.
-// What both kinds do alike is in `Cells`; two implementations of the one interface are a rule of the project.
+// What both kinds do alike is in `Cells`; that each kind has a text of its own, short methods too, is a rule of the project.
 #[derive(Drop)]
 pub struct Sectors<'a> {
     cells: Cells<'a>,
