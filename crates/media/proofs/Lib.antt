@@ -1,2 +1,3 @@
 -- What the media's functions cite
 pub mod Ends
+pub mod Chunks

@@ -18,14 +18,12 @@ pub fn check_bytes(bytes: &[u8]) -> Result<(), MediumFault>
 }
 
 /// Fills `out` with a row of the bytes.
+#[tactic(auto, using(crate::proofs::Chunks::chunks_are))]
 pub(crate) fn read_row(bytes: &[u8], row: usize, out: &mut [u8; 32]) -> Result<(), MediumFault>
     ensures { reads (rows_in bytes.now) row out.old ≡ (outcome result, out.new) }
 {
-    if row >= bytes.len() / 32 {
-        return Err(MediumFault::Outside(row));
-    }
-    let start = row * 32;
-    out.copy_from_slice(&bytes[start..start + 32]);
+    let (rows, _) = bytes.as_chunks::<32>();
+    *out = *rows.get(row).ok_or(MediumFault::Outside(row))?;
     Ok(())
 }
 

@@ -1,6 +1,6 @@
 ghost use Rattle.std.specs.Prelude.{◌≡◌, ℕ, List, ◌*◌, ◌/◌, ◌%◌, ◌^◌, ◌<◌, ◌≤◌, length, IfOk, OnOk, OnErr, if◌then◌else◌};
 ghost use Rattle.rules.specs.Rows.{blank_row};
-ghost use Rattle.rules.specs.Media.{accepted, refused, is_medium_size, row_in, rows_in, reads, programs, erases, one_more};
+ghost use Rattle.rules.specs.Media.{accepted, refused, is_medium_size, row_in, rows_in, reads, programs, erases};
 ghost use Rattle.media.specs.Outcomes.{outcome};
 
 use crate::bytes::{check_bytes, read_row};
@@ -27,6 +27,7 @@ impl<'a> Cells<'a> {
         ensures bytes { IfOk result (λ cells. bytes_of cells ≡ bytes.old) }
         ensures lender { IfOk result (λ cells. lender_of cells ≡ bytes.entry.ghost_name) }
     {
+        // no clause for refused bytes, which stay as they are: none is proved where a lent slice goes into the result itself
         check_bytes(&*bytes)?;
         Ok(Cells { bytes, writes: 0 })
     }
@@ -42,6 +43,8 @@ impl<'a> Cells<'a> {
 }
 
 impl Cells<'_> {
+    ghost use Rattle.media.specs.Cells.{WritesOnce};
+
     /// The number of pages.
     pub(crate) fn size(&self) -> usize
         ensures pages { result ≡ length self.now.bytes.now / 512 }
@@ -86,9 +89,8 @@ impl Cells<'_> {
 
     /// Counts one more write, modulo 2^32.
     pub(crate) fn count_write(&mut self)
-        ensures writes { self.new.writes ≡ one_more self.old.writes }
+        ensures once { WritesOnce self.old self.new }
         ensures bytes { self.new.bytes.now ≡ self.old.bytes.now }
-        ensures lender { self.new.bytes.ghost_name ≡ self.old.bytes.ghost_name }
     {
         self.writes = self.writes.wrapping_add(1);
     }

@@ -7,6 +7,7 @@ use crate::cells::Cells;
 use crate::medium::{Medium, MediumFault};
 
 /// Flash: a program clears bits, and only the erase of a page sets them again.
+// What both kinds do alike is in `Cells`; that each kind has a text of its own, short methods too, is a rule of the project.
 #[derive(Drop)]
 pub struct Flash<'a> {
     cells: Cells<'a>,

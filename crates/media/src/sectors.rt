@@ -1,7 +1,8 @@
 ghost use Rattle.std.specs.Prelude.{◌≡◌, ◌+◌, ◌%◌, ◌≤◌, length, take, drop};
 ghost use borrow.Rule.Slice.PartMut.{put_mid};
-ghost use Rattle.rules.specs.Media.{rows_in, one_more};
+ghost use Rattle.rules.specs.Media.{rows_in};
 ghost use Rattle.rules.proofs.MediaLaws.{shaped};
+ghost use Rattle.media.specs.Cells.{WritesOnce};
 
 use crate::cells::Cells;
 use crate::medium::{Medium, MediumFault};
@@ -10,7 +11,7 @@ use crate::medium::{Medium, MediumFault};
 const ERASED: [u8; 512] = [0xFF; 512];
 
 /// Rewritable sectors: every write rewrites one page whole.
-// What both kinds do alike is in `Cells`; two implementations of the one interface are a rule of the project.
+// What both kinds do alike is in `Cells`; that each kind has a text of its own, short methods too, is a rule of the project.
 #[derive(Drop)]
 pub struct Sectors<'a> {
     cells: Cells<'a>,
@@ -55,8 +56,7 @@ fn page_at(cells: &Cells<'_>, start: usize) -> [u8; 512]
 fn rewrite(cells: &mut Cells<'_>, start: usize, sector: &[u8; 512])
     requires { start + 512 ≤ length cells.old.bytes.now }
     ensures bytes { cells.new.bytes.now ≡ put_mid start 512 cells.old.bytes.now sector.now }
-    ensures writes { cells.new.writes ≡ one_more cells.old.writes }
-    ensures lender { cells.new.bytes.ghost_name ≡ cells.old.bytes.ghost_name }
+    ensures once { WritesOnce cells.old cells.new }
 {
     cells.bytes[start..start + 512].copy_from_slice(sector);
     cells.count_write();
@@ -67,8 +67,7 @@ fn write_row(cells: &mut Cells<'_>, start: usize, bytes: &[u8; 32])
     requires inside { start + 32 ≤ length cells.old.bytes.now }
     requires row { start % 32 ≡ 0 }
     ensures bytes { cells.new.bytes.now ≡ put_mid start 32 cells.old.bytes.now bytes.now }
-    ensures writes { cells.new.writes ≡ one_more cells.old.writes }
-    ensures lender { cells.new.bytes.ghost_name ≡ cells.old.bytes.ghost_name }
+    ensures once { WritesOnce cells.old cells.new }
 {
     let page = start / 512 * 512;
     let at = start % 512;

@@ -1,5 +1,5 @@
 -- What a read row holds
-use Rattle.std.proofs.Common.{◌≡◌, ℕ, Bool, true, false, cond, ltb, List, [], length, MatchOption, sym, refl, ap, ◌∙◌, arith, Option, None, Some}
+use Rattle.std.proofs.Common.{◌≡◌, ℕ, Bool, true, false, cond, ltb, List, [], length, MatchOption, ◌⊎◌, inl, inr, sym, refl, ap, ◌∙◌, arith, Option, None, Some}
 use Rattle.std.proofs.lemmas.List.{get_or_past}
 use Rattle.std.proofs.lemmas.Bool.{ltb-false}
 use Rattle.rules.specs.Lists.{when_some}
@@ -9,9 +9,9 @@ use Rattle.rules.specs.Memory.{Rows, row_at}
 use Rattle.rules.specs.Media.{accepted, refused}
 use Rattle.memory.specs.Entries.{row_in, entry_in}
 use Rattle.records.specs.Verdicts.{verdict_of}
-use Rattle.records.specs.declared.record.Record.{Record as CodeRecord}
 use Rattle.records.specs.declared.row.Verdict.{Verdict as CodeVerdict}
-use Rattle.records.specs.declared.row.Verdict.TheVariants.{Blank, Damaged, Intact}
+use Rattle.records.specs.declared.row.Verdict.TheVariants.{Blank, Damaged}
+use Rattle.records.specs.declared.row.Damage.{Damage}
 use Rattle.records.specs.declared.row.Damage.TheVariants.{Check, Fields}
 use Rattle.rules.proofs.BlankRows.{is_blank_row}
 use Rattle.rules.proofs.RowLaws.{read_is_packed, blank_reads_none, nothing_reads_none}
@@ -68,8 +68,10 @@ module _ (rows : Rows) (i : ℕ) where
   blank_told (Some row) b e h = h ∙ ap is_blank (row_there row e)
 
 -- only an intact row holds a record
-pub not_intact : (v : CodeVerdict) → ((r : CodeRecord) → v ≡ Intact r → ⊥) → None ≡ found_in (verdict_of v)
-not_intact Blank other = refl
-not_intact (Damaged Check) other = refl
-not_intact (Damaged Fields) other = refl
-not_intact (Intact r) other = absurd (other r refl)
+pub not_intact : (v : CodeVerdict) → (v ≡ Blank) ⊎ ((damage : Damage) × (v ≡ Damaged damage)) → None ≡ found_in (verdict_of v)
+not_intact v (inl e) = ap (λ v. found_in (verdict_of v)) (sym e)
+not_intact v (inr (damage, e)) = by damage ∙ ap (λ v. found_in (verdict_of v)) (sym e)
+  where
+    by : (damage : Damage) → None ≡ found_in (verdict_of (Damaged damage))
+    by Check = refl
+    by Fields = refl

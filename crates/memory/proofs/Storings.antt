@@ -1,5 +1,5 @@
 -- The next row takes a record, and what a store answers and leaves
-use Rattle.std.proofs.Common.{◌≡◌, ℕ, Bool, true, false, cond, ltb, List, set, Result, Ok, Err, sym, refl, ap, ◌∙◌, Option, None, Some}
+use Rattle.std.proofs.Common.{◌≡◌, ℕ, Bool, true, false, cond, ltb, ◌≤◌, List, set, Result, Ok, Err, sym, refl, ap, ◌∙◌, arith, Option, None, Some}
 use Rattle.std.specs.Option.{ok_or}
 use Rattle.rules.specs.Lists.{when_some}
 use Rattle.rules.specs.Records.{Record, numbered}
@@ -33,6 +33,31 @@ row_there rows (Some i) row e h k = sym h ∙ ap Some (cc k)
 pub row_missing : (rows : Rows) (o : Option ℕ) (e f : MemoryFault) → o ≡ next_row rows → ◌≡◌ {A = Result ℕ MemoryFault} (Err f) (ok_or o e) → next_row rows ≡ None
 row_missing rows None e f h k = sym h
 row_missing rows (Some i) e f h k = cc
+
+-- the number that is next is 1 at least
+pub next_from_1 : (rows : Rows) → 1 ≤ next_number rows
+unfolding next_number
+next_from_1 rows = by (newest rows)
+  where
+    by : (o : Option (ℕ × Record)) → 1 ≤ number_after o
+    by None = omega arith
+    by (Some n) = omega arith
+
+-- the record under a number, if that is one of 32 bits
+abbrev numbered_within : (is_last : Bool) (number : ℕ) → Record → Outcome × Option Record
+numbered_within is_last number r = cond is_last (refused 23 0, None) (accepted, Some (numbered number r))
+
+-- the record that follows has the number that is next
+pub follows_next : (rows : Rows) (r : Record) (n : ℕ) → n ≡ next_number rows → false ≡ is_earlier (newest rows) r → follows (newest rows) r ≡ numbered_within (ltb 4294967295 n) n r
+unfolding next_number
+follows_next rows r n is late =
+    let number = number_after (newest rows) in
+    let left : Bool → Outcome × Option Record = λ t. cond t (refused 22 0, None) (when_some (cond (ltb 4294967295 number) None (Some number)) (refused 23 0, None) (λ n. (accepted, Some (numbered n r)))) in
+    ap left (sym late) ∙ by (ltb 4294967295 number) number ∙ ap (λ n. numbered_within (ltb 4294967295 n) n r) (sym is)
+  where
+    by : (t : Bool) (n : ℕ) → ◌≡◌ {A = Outcome × Option Record} (when_some (cond t None (Some n)) (refused 23 0, None) (λ n. (accepted, Some (numbered n r)))) (numbered_within t n r)
+    by true n = refl
+    by false n = refl
 
 -- ---- A store in a memory in order
 

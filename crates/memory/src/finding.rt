@@ -9,17 +9,10 @@ ghost use Rattle.memory.specs.Faults.{outcome, finds, looks_up, found as record_
 
 use crate::entry::Entry;
 use crate::fault::MemoryFault;
-use crate::reading::{entry_at, newest};
+use crate::reading::entry_at;
 use crate::seen::Seen;
 use media::Medium;
 use records::Record;
-
-/// The number of the next record: one more than the newest number, or 1.
-pub fn next_number<M: Medium>(m: &M) -> u64
-    ensures { result ≡ next_number (M.rows m.now) }
-{
-    newest(m).map_or(1, |entry| u64::from(entry.weighing.number) + 1)
-}
 
 /// The record, if it has that number.
 fn if_numbered(entry: Option<Entry>, number: u64) -> Option<Record>
@@ -30,6 +23,14 @@ fn if_numbered(entry: Option<Entry>, number: u64) -> Option<Record>
 }
 
 impl<M: Medium> Seen<'_, M> {
+    /// The number of the next record: one more than the newest number, or 1.
+    pub(crate) fn next_number(&self) -> u64
+        ensures { result ≡ next_number (M.rows self.now.medium.now) }
+    {
+        self.newest
+            .map_or(1, |entry| u64::from(entry.weighing.number) + 1)
+    }
+
     /// The intact record with that number, along the round from its first row.
     fn find(&self, number: u64) -> Result<Record, MemoryFault>
         ensures { finds (M.rows self.now.medium.now) number ≡ (outcome result, record_found result) }
@@ -43,11 +44,18 @@ impl<M: Medium> Seen<'_, M> {
     }
 }
 
+/// The number of the next record: one more than the newest number, or 1.
+pub fn next_number<M: Medium>(m: &M) -> u64
+    ensures { result ≡ next_number (M.rows m.now) }
+{
+    Seen::of(m).next_number()
+}
+
 /// The intact record with that number.
-pub fn find<M: Medium>(m: &M, number: u32) -> Result<Record, MemoryFault>
+pub fn find<M: Medium>(m: &M, number: u64) -> Result<Record, MemoryFault>
     ensures { finds (M.rows m.now) number ≡ (outcome result, record_found result) }
 {
-    Seen::of(m).find(u64::from(number))
+    Seen::of(m).find(number)
 }
 
 /// The intact record with that number, in a memory in order.

@@ -35,10 +35,9 @@ pub(crate) fn is_blank_at<M: Medium>(m: &M, row: usize) -> bool
 fn intact(row: &[u8; 32]) -> Option<Record>
     ensures { option_map record_of result ≡ read_row row.now }
 {
-    if let Verdict::Intact(found) = judge(row) {
-        Some(found)
-    } else {
-        None
+    match judge(row) {
+        Verdict::Intact(found) => Some(found),
+        Verdict::Blank | Verdict::Damaged(_) => None,
     }
 }
 

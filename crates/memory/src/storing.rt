@@ -1,12 +1,12 @@
 //! The store: a weighing gets the number after the newest record's, and goes into the next row.
 
-ghost use Rattle.std.specs.Prelude.{◌≡◌, true, Ok, Err, Some};
+ghost use Rattle.std.specs.Prelude.{◌≡◌, true, Some, IfOk};
 ghost use Rattle.rules.specs.Records.{lawful};
 ghost use Rattle.rules.specs.Memory.{newest as newest_of, next_row};
 ghost use Rattle.records.specs.RecordsOf.{record_of};
 ghost use Rattle.records.specs.WeighingsOf.{weighing_of};
 ghost use Rattle.memory.specs.Faults.{outcome, found as record_found, appends, row_told};
-ghost use Rattle.memory.specs.Stores.{is_earlier, number_left, follows, writes_record, stores, store_told};
+ghost use Rattle.memory.specs.Stores.{is_earlier, follows, writes_record, stores, store_told};
 
 use crate::fault::MemoryFault;
 use crate::next::next_row;
@@ -23,26 +23,21 @@ impl<M: Medium> Seen<'_, M> {
             .is_some_and(|entry| weighing.numbered(1).is_earlier(entry.weighing))
     }
 
-    /// The number after the newest record's, or 1; none where all numbers are used up.
-    fn next_number(&self) -> Option<u32>
-        ensures { result ≡ number_left (newest_of (M.rows self.now.medium.now)) }
-    {
-        self.newest
-            .map_or(Some(1), |entry| entry.weighing.number.checked_add(1))
-    }
-
     /// The record of a weighing under the number after the newest record's.
+    #[tactic(auto, using(crate::proofs::Storings::follows_next, crate::proofs::Storings::next_from_1))]
     fn record(&self, weighing: Weighing) -> Result<Record, MemoryFault>
         ensures says { follows (newest_of (M.rows self.now.medium.now)) (weighing_of weighing) ≡ (outcome result, record_found result) }
-        ensures lawful { elim result [ Ok q ↦ lawful (record_of q) ≡ true | Err _ ↦ Unit {0} ] }
+        ensures lawful { IfOk result (λ q. lawful (record_of q) ≡ true) }
     {
         if self.is_later_than(weighing) {
             return Err(MemoryFault::Earlier);
         }
-        let number = self.next_number().ok_or(MemoryFault::NoNumber)?;
+        let number = u32::try_from(self.next_number()).map_err(|_| MemoryFault::NoNumber)?;
         Ok(weighing.numbered(number))
     }
 }
+
+// Each function that writes owes its `lender` clause: it is a fact about that call, before and after.
 
 /// Programs a record into the next row, which is one write.
 fn write<M: Medium>(m: &mut M, row: usize, weighed: Record) -> Result<(), MemoryFault>

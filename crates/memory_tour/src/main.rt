@@ -45,7 +45,6 @@ impl Calls for Appends {
     }
 
     fn find<M: Medium>(memory: &M, number: u64) -> Result<Record, MemoryFault> {
-        let number = u32::try_from(number).map_err(|_| MemoryFault::Unknown)?;
         find(memory, number)
     }
 }

@@ -5,5 +5,5 @@ use Rattle.memory.proofs.reading.intact.Goals as goal
 pub returns-in-Intact : goal.returns-in-Intact
 returns-in-Intact c = ap found_in c.in-Intact.ensures ∙ judged_tells c.args.row.now
 
-pub returns-in_default : goal.returns-in_default
-returns-in_default c = not_intact _ c.in_default.not-Intact ∙ ap found_in c.judge.ensures ∙ judged_tells c.args.row.now
+pub returns-in-Blank : goal.returns-in-Blank
+returns-in-Blank c = not_intact _ c.in-Blank.is ∙ ap found_in c.judge.ensures ∙ judged_tells c.args.row.now

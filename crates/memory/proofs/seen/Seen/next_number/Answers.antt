@@ -1,6 +1,6 @@
 use Rattle.std.proofs.Common.{rules}
 use Rattle.rules.specs.Memory.{next_number}
-use Rattle.memory.proofs.finding.next_number.Goals as goal
+use Rattle.memory.proofs.seen.Seen.next_number.Goals as goal
 
 pub returns : goal.returns
 unfolding next_number
