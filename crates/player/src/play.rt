@@ -65,8 +65,8 @@ impl<M: Medium> Player<M> {
         }
     }
 
-    /// Does what a line asks for.
-    fn obey(&mut self, item: Item<'_>) -> Result<Reply, LineFault>
+    /// Does what a line asks for, and gives the ticket that it prints, if it prints one.
+    fn obey(&mut self, item: Item<'_>) -> Result<Option<[u8; 76]>, LineFault>
         ensures { plays (playing M.rows M.count self.old) item.entry.line (reading item.entry.asks) ≡ (written item.entry.line result, playing M.rows M.count self.new) }
     {
         let terminal = &mut self.terminal;
@@ -90,15 +90,15 @@ impl<M: Medium> Player<M> {
                     mark,
                     unit_price,
                 };
-                return Ok(Reply::Ticket(weigh_out(terminal, entered)?));
+                return weigh_out(terminal, entered).map(Some);
             }
             Command::Reopen => terminal.reopen(self.settings),
             Command::Release { day, today } => {
                 terminal.release(day, today, None)?;
             }
-            Command::Print(number) => return Ok(Reply::Ticket(print(&*terminal, number)?)),
+            Command::Print(number) => return print(&*terminal, number).map(Some),
         }
-        Ok(Reply::Nothing)
+        Ok(None)
     }
 
     /// Plays a line, and gives what it writes.
@@ -106,7 +106,10 @@ impl<M: Medium> Player<M> {
         ensures { plays (playing M.rows M.count self.old) item.entry.line (reading item.entry.asks) ≡ (bytes_of result, playing M.rows M.count self.new) }
     {
         let line = item.line;
-        self.obey(item)
-            .unwrap_or_else(|fault| Reply::refused(line, fault))
+        match self.obey(item) {
+            Ok(Some(ticket)) => Reply::Ticket(ticket),
+            Ok(None) => Reply::Nothing,
+            Err(fault) => Reply::refused(line, fault),
+        }
     }
 }
