@@ -6,7 +6,7 @@ ghost use Rattle.rules.specs.Replay.{running, then_printed, weighs_out, plays};
 ghost use Rattle.loads.specs.SettingsOf.{settings_of};
 ghost use Rattle.indicator.specs.Entries.{entries_of};
 ghost use Rattle.trace.specs.Meaning.{reading};
-ghost use Rattle.terminal.specs.Worlds.{world, world_with};
+ghost use Rattle.terminal.specs.Worlds.{world, world_with, Acts};
 ghost use Rattle.player.specs.Replies.{bytes_of, written, answer_of, then_print};
 ghost use Rattle.player.specs.Players.{playing};
 
@@ -21,7 +21,7 @@ use trace::{Command, Item, TraceFault};
 
 /// Prints the ticket of a number.
 fn print<M: Medium>(terminal: &Terminal<M>, number: u32) -> Result<[u8; 76], LineFault>
-    ensures { acts (a_print number 76) (world M.rows M.count terminal.now) ≡ (answer_of result, world M.rows M.count terminal.now) }
+    ensures { Acts M.rows M.count (a_print number 76) terminal.now (answer_of result) terminal.now }
 {
     let mut ticket = [0; 76];
     terminal.print(number, &mut ticket)?;
