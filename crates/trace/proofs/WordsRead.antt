@@ -5,6 +5,7 @@ use Rattle.std.proofs.lemmas.Bool.{le-leb, lt-leb, eq-eqb, ne_eqb, eqb-true, eqb
 use Rattle.rules.proofs.Decimals.{written}
 use Rattle.rules.specs.Lists.{when_some}
 use Rattle.std.specs.Result.{OkIff, result_ok}
+use Rattle.std.specs.Char.{IsDigitOf, NotDecimalDigitIn}
 use Rattle.rules.specs.Terminal.{all_digits}
 use Rattle.rules.specs.Trace.{flash, sectors, a_byte, a_number, a_day, a_kind, a_load, a_mark}
 
@@ -55,6 +56,15 @@ module _ (word : List ℕ) (low : 1 ≤ length word) (high : length word ≤ 9) 
 
   pub some_bad : all_digits word ≡ false → a_number word ≡ None
   some_bad e = sized ∙ ap (λ b. cond b (Some (written word)) None) e
+
+-- what a byte is that is a digit, and what it is else
+pub digit_told : (c d : ℕ) → d < 10 → IsDigitOf c d → (48 ≤ c) × (c ≤ 57) × (d ≡ c - 48)
+digit_told c d small (inl h) = (omega arith, omega arith, omega arith)
+digit_told c d small (inr (inl h)) = absurd (omega arith)
+digit_told c d small (inr (inr h)) = absurd (omega arith)
+
+pub no_digit_told : (c : ℕ) → NotDecimalDigitIn 10 c → (c < 48) ⊎ (57 < c)
+no_digit_told c h = elim (cases_lt c 48) [ inl low ↦ inl low | inr low ↦ elim (cases_lt 57 c) [ inl high ↦ inr high | inr high ↦ absurd (omega (arith, h low high)) ] ]
 
 -- ---- Days, kinds and loads
 

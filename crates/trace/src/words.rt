@@ -30,7 +30,8 @@ pub(crate) fn single(word: &[u8]) -> Option<u8>
 }
 
 /// A number of 1 to 9 digits.
-// `records` reads ten digits of a line into 64 bits; one function for both would be public in a crate that a reader of traces has no use for.
+// Apart from the reader of ten digits in `records`: a trace needs no crate but `rules`, and a word may have any length, while its number has a bound.
+// No `parse`: it takes a plus in front too, which no number of a trace has.
 pub(crate) fn number(word: &[u8]) -> Option<u32>
     ensures value { result ≡ a_number word.now }
     ensures small { IfSome result (λ n. n < 1000000000) }
@@ -40,10 +41,7 @@ pub(crate) fn number(word: &[u8]) -> Option<u32>
     }
     let mut number = 0;
     for byte in word {
-        if !byte.is_ascii_digit() {
-            return None;
-        }
-        number = number * 10 + u32::from(*byte - b'0');
+        number = number * 10 + char::from(*byte).to_digit(10)?;
     }
     Some(number)
 }
@@ -66,21 +64,19 @@ pub(crate) fn day(word: &[u8]) -> Option<u16>
 }
 
 /// A mark as it was typed: 1 to 8 bytes.
+#[tactic(auto, unfolding(rules::specs::Trace::a_mark))]
 pub(crate) fn mark<'a>(word: &'a [u8]) -> Option<&'a [u8]>
     ensures value { option_map (λ x. x.now) result ≡ a_mark word.now }
     ensures same { IfSome result (λ m. m.now ≡ word.now) }
 {
-    if word.is_empty() || word.len() > LONGEST_MARK {
-        return None;
-    }
-    Some(word)
+    (1..=LONGEST_MARK).contains(&word.len()).then_some(word)
 }
 
 /// The kind of a medium by its letter.
 pub(crate) fn kind(word: &[u8]) -> Option<MediumKind>
     ensures { option_map kind_of result ≡ a_kind word.now }
 {
-    // No TryFrom for a byte: its error would be dropped at once, and the word would be taken apart first.
+    // An option, and no `TryFrom` for a byte: its error would be dropped at once, and the word would be taken apart first.
     match word {
         [b'F'] => Some(MediumKind::Flash),
         [b'S'] => Some(MediumKind::Sectors),
