@@ -70,6 +70,7 @@ impl<M: Medium> Player<M> {
         ensures { plays (playing M.rows M.count self.old) item.entry.line (reading item.entry.asks) ≡ (written item.entry.line result, playing M.rows M.count self.new) }
     {
         let terminal = &mut self.terminal;
+        // One match: each command is another call of the terminal, with other values.
         match item.asks? {
             Command::Begin { .. } => return Err(LineFault::Trace(TraceFault { line: item.line })),
             Command::Sample(load) => terminal.sample(Tenths(load))?,
