@@ -51,7 +51,7 @@ fn weigh_out<M: Medium>(
 {
     let claim = terminal.weigh(entered)?;
     let number = store(terminal, claim)?;
-    print(&*terminal, number)
+    print(terminal, number)
 }
 
 impl<M: Medium> Player<M> {
@@ -82,8 +82,8 @@ impl<M: Medium> Player<M> {
                 day,
                 minute,
                 mark,
-                place: _,
                 unit_price,
+                ..
             } => {
                 let entered = Entered {
                     day,
@@ -97,7 +97,7 @@ impl<M: Medium> Player<M> {
             Command::Release { day, today } => {
                 terminal.release(day, today, None)?;
             }
-            Command::Print(number) => return print(&*terminal, number).map(Some),
+            Command::Print(number) => return print(terminal, number).map(Some),
         }
         Ok(None)
     }

@@ -20,11 +20,11 @@ pub(crate) struct Run<'a> {
 }
 
 impl Run<'_> {
-    ghost use Rattle.player.specs.Runs.{whole_of};
+    ghost use Rattle.player.specs.Runs.{WritesRest};
 
     /// Plays the lines that are left, and gives all that is written then.
     fn play<M: Medium>(mut self, player: &mut Player<M>) -> Result<Vec<u8>, AllocError>
-        ensures { IfOk result (λ v. v.items ≡ whole_of (playing M.rows M.count player.old) self.entry) }
+        ensures { IfOk result (WritesRest (playing M.rows M.count player.old) self.entry) }
     {
         for item in self.reader {
             let reply = player.play(item);
@@ -40,14 +40,14 @@ impl Run<'_> {
         settings: Settings,
     ) -> Result<Vec<u8>, AllocError>
         requires { (M.rows medium ≡ replicate 128 blank_row) × (M.count medium ≡ 0) }
-        ensures { IfOk result (λ v. v.items ≡ whole_of (opened settings) self.entry) }
+        ensures { IfOk result (WritesRest (opened settings) self.entry) }
     {
         self.play(&mut Player::open(medium, settings))
     }
 
     /// Plays the lines that are left over a blank medium of the kind that they begin with.
     fn play_from(self, beginning: Beginning) -> Result<Vec<u8>, AllocError>
-        ensures { IfOk result (λ v. v.items ≡ whole_of (opened beginning.settings) self.entry) }
+        ensures { IfOk result (WritesRest (opened beginning.settings) self.entry) }
     {
         let settings = beginning.settings;
         let mut cells = [0xFF; 4096];
@@ -61,7 +61,7 @@ impl Run<'_> {
 
     /// Plays the lines that are left, from the one that begins on, and gives all that is written then.
     pub(crate) fn play_all(mut self) -> Result<Vec<u8>, AllocError>
-        ensures { IfOk result (λ v. v.items ≡ whole_of unopened self.entry) }
+        ensures { IfOk result (WritesRest unopened self.entry) }
     {
         // No `for` over `&mut self.reader`: where it returns early, the proof does not know which lines are left.
         while let Some(item) = self.reader.next_item() {
