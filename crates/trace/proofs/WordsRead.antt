@@ -7,7 +7,7 @@ use Rattle.rules.specs.Lists.{when_some}
 use Rattle.std.specs.Result.{OkIff, result_ok}
 use Rattle.std.specs.Char.{IsDigitOf, NotDecimalDigitIn}
 use Rattle.rules.specs.Terminal.{all_digits}
-use Rattle.rules.specs.Trace.{flash, sectors, a_byte, a_number, a_day, a_kind, a_load, a_mark}
+use Rattle.rules.specs.Trace.{flash, sectors, a_byte, a_number, a_day, a_kind, a_load}
 
 -- ---- One byte
 
@@ -32,19 +32,9 @@ pub filled : (n : ℕ) (b : Bool) → b ≡ eqb n 0 → b ≡ false → 1 ≤ n
 filled zero b e h = absurd (eqb-false 0 0 (sym e ∙ h) refl)
 filled (suc n) b e h = omega arith
 
-never : (b : Bool) → (b && false) ≡ false
-never true = refl
-never false = refl
-
 pub too_short : (word : List ℕ) → length word < 1 → a_number word ≡ None
 unfolding a_number
 too_short word h = ap (λ b. cond (b && (leb (length word) 9 && all_digits word)) (Some (written word)) None) (lt-leb 1 (length word) h)
-
-pub too_long : (word : List ℕ) → 9 < length word → a_number word ≡ None
-unfolding a_number
-too_long word h =
-    ap (λ b. cond (leb 1 (length word) && (b && all_digits word)) (Some (written word)) None) (lt-leb (length word) 9 h)
-    ∙ ap (λ b. cond b (Some (written word)) None) (never (leb 1 (length word)))
 
 module _ (word : List ℕ) (low : 1 ≤ length word) (high : length word ≤ 9) where
   sized : a_number word ≡ cond (all_digits word) (Some (written word)) None
@@ -113,15 +103,3 @@ plain_load [] o other n = sym (ap (λ o. when_some o None (λ n. Some (pos n))) 
 plain_load (c ∷ cs) o other n =
     ap (λ b. cond b (when_some (a_number cs) None (λ n. Some (neg_ℤ (pos n)))) (when_some (a_number (c ∷ cs)) None (λ n. Some (pos n)))) (ne_eqb c 45 (other (omega arith)))
     ∙ ap (λ o. when_some o None (λ n. Some (pos n))) (sym n)
-
--- ---- Marks
-
-pub mark_is : (word : List ℕ) → 1 ≤ length word → length word ≤ 8 → a_mark word ≡ Some word
-unfolding a_mark
-mark_is word low high = rw (le-leb 1 (length word) low, le-leb (length word) 8 high)
-
-pub no_mark : (word : List ℕ) → (length word < 1) ⊎ (8 < length word) → a_mark word ≡ None
-unfolding a_mark
-no_mark word (inl h) = ap (λ b. cond (b && leb (length word) 8) (Some word) None) (lt-leb 1 (length word) h)
-no_mark word (inr h) =
-    ap (λ b. cond (leb 1 (length word) && b) (Some word) None) (lt-leb (length word) 8 h) ∙ ap (λ b. cond b (Some word) None) (never (leb 1 (length word)))

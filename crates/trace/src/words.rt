@@ -36,7 +36,7 @@ pub(crate) fn number(word: &[u8]) -> Option<u32>
     ensures value { result ≡ a_number word.now }
     ensures small { IfSome result (λ n. n < 1000000000) }
 {
-    if word.is_empty() || word.len() > LONGEST_NUMBER {
+    if !(1..=LONGEST_NUMBER).contains(&word.len()) {
         return None;
     }
     let mut number = 0;
@@ -65,7 +65,7 @@ pub(crate) fn day(word: &[u8]) -> Option<u16>
 
 /// A mark as it was typed: 1 to 8 bytes.
 #[tactic(auto, unfolding(rules::specs::Trace::a_mark))]
-pub(crate) fn mark<'a>(word: &'a [u8]) -> Option<&'a [u8]>
+pub(crate) fn mark(word: &[u8]) -> Option<&[u8]>
     ensures value { option_map (λ x. x.now) result ≡ a_mark word.now }
     ensures same { IfSome result (λ m. m.now ≡ word.now) }
 {
