@@ -20,6 +20,7 @@ pub(crate) fn find(bytes: &[u8], byte: u8) -> Option<usize>
 }
 
 /// The one byte of a word.
+#[tactic(auto, unfolding(rules::specs::Trace::a_byte))]
 pub(crate) fn single(word: &[u8]) -> Option<u8>
     ensures { result ≡ a_byte word.now }
 {
@@ -47,6 +48,7 @@ pub(crate) fn number(word: &[u8]) -> Option<u32>
 }
 
 /// A number, perhaps with a minus in front.
+#[tactic(auto, using(crate::proofs::WordsRead::too_short, crate::proofs::WordsTaken::unsigned), unfolding(rules::specs::Trace::a_load))]
 pub(crate) fn load(word: &[u8]) -> Option<i32>
     ensures { result ≡ a_load word.now }
 {
@@ -57,6 +59,7 @@ pub(crate) fn load(word: &[u8]) -> Option<i32>
 }
 
 /// A number of at most 65,535.
+#[tactic(auto, unfolding(rules::specs::Trace::a_day))]
 pub(crate) fn day(word: &[u8]) -> Option<u16>
     ensures { result ≡ a_day word.now }
 {
@@ -73,6 +76,7 @@ pub(crate) fn mark(word: &[u8]) -> Option<&[u8]>
 }
 
 /// The kind of a medium by its letter.
+#[tactic(auto, unfolding(rules::specs::Trace::a_kind, rules::specs::Trace::a_byte))]
 pub(crate) fn kind(word: &[u8]) -> Option<MediumKind>
     ensures { option_map kind_of result ≡ a_kind word.now }
 {
