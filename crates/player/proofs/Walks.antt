@@ -3,12 +3,6 @@ use Rattle.std.proofs.Common.{◌≡◌, ℕ, ◌+◌, List, [], ◌∷◌, ◌+
 use Rattle.std.proofs.lemmas.List.{append-nil, append_assoc}
 use Rattle.rules.specs.Trace.{Reading, reading_of, next_line}
 use Rattle.rules.specs.Replay.{Replay, plays, writes_from}
-use Rattle.player.specs.declared.run.Run.{Run}
-use Rattle.player.specs.Runs.{rest_of}
-
--- what is written, with what the lines that are left write
-abbrev pub whole_of : Replay → Run → List ℕ
-whole_of r run = run.out.items ++ rest_of r run
 
 -- a line that is read where a line is left
 at_line :

@@ -22,6 +22,7 @@ pub fn begin(item: Item<'_>) -> Result<Beginning, Reply>
     ensures kind { KindAsked (reading item.entry.asks) result }
 {
     let line = item.line;
+    // No `?`: a line that is none of a trace and one that does not begin a replay are refused by one number.
     let Ok(
         Command::Begin {
             kind,

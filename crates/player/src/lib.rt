@@ -13,4 +13,5 @@ mod whole;
 pub use beginning::{Beginning, begin};
 pub use body::Player;
 pub use reply::Reply;
+pub use trace::LONGEST_TRACE;
 pub use whole::replay;

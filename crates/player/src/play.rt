@@ -6,7 +6,7 @@ ghost use Rattle.rules.specs.Replay.{running, then_printed, weighs_out, plays};
 ghost use Rattle.loads.specs.SettingsOf.{settings_of};
 ghost use Rattle.indicator.specs.Entries.{entries_of};
 ghost use Rattle.trace.specs.Meaning.{reading};
-ghost use Rattle.terminal.specs.Worlds.{world, world_with};
+ghost use Rattle.terminal.specs.Worlds.{world, world_with, Acts};
 ghost use Rattle.player.specs.Replies.{bytes_of, written, answer_of, then_print};
 ghost use Rattle.player.specs.Players.{playing};
 
@@ -21,7 +21,7 @@ use trace::{Command, Item, TraceFault};
 
 /// Prints the ticket of a number.
 fn print<M: Medium>(terminal: &Terminal<M>, number: u32) -> Result<[u8; 76], LineFault>
-    ensures { acts (a_print number 76) (world M.rows M.count terminal.now) ≡ (answer_of result, world M.rows M.count terminal.now) }
+    ensures { Acts M.rows M.count (a_print number 76) terminal.now (answer_of result) terminal.now }
 {
     let mut ticket = [0; 76];
     terminal.print(number, &mut ticket)?;
@@ -51,7 +51,7 @@ fn weigh_out<M: Medium>(
 {
     let claim = terminal.weigh(entered)?;
     let number = store(terminal, claim)?;
-    print(&*terminal, number)
+    print(terminal, number)
 }
 
 impl<M: Medium> Player<M> {
@@ -65,11 +65,12 @@ impl<M: Medium> Player<M> {
         }
     }
 
-    /// Does what a line asks for.
-    fn obey(&mut self, item: Item<'_>) -> Result<Reply, LineFault>
+    /// Does what a line asks for, and gives the ticket that it prints, if it prints one.
+    fn obey(&mut self, item: Item<'_>) -> Result<Option<[u8; 76]>, LineFault>
         ensures { plays (playing M.rows M.count self.old) item.entry.line (reading item.entry.asks) ≡ (written item.entry.line result, playing M.rows M.count self.new) }
     {
         let terminal = &mut self.terminal;
+        // One match: each command is another call of the terminal, with other values.
         match item.asks? {
             Command::Begin { .. } => return Err(LineFault::Trace(TraceFault { line: item.line })),
             Command::Sample(load) => terminal.sample(Tenths(load))?,
@@ -81,8 +82,8 @@ impl<M: Medium> Player<M> {
                 day,
                 minute,
                 mark,
-                place: _,
                 unit_price,
+                ..
             } => {
                 let entered = Entered {
                     day,
@@ -90,15 +91,15 @@ impl<M: Medium> Player<M> {
                     mark,
                     unit_price,
                 };
-                return Ok(Reply::Ticket(weigh_out(terminal, entered)?));
+                return weigh_out(terminal, entered).map(Some);
             }
             Command::Reopen => terminal.reopen(self.settings),
             Command::Release { day, today } => {
                 terminal.release(day, today, None)?;
             }
-            Command::Print(number) => return Ok(Reply::Ticket(print(&*terminal, number)?)),
+            Command::Print(number) => return print(terminal, number).map(Some),
         }
-        Ok(Reply::Nothing)
+        Ok(None)
     }
 
     /// Plays a line, and gives what it writes.
@@ -106,7 +107,10 @@ impl<M: Medium> Player<M> {
         ensures { plays (playing M.rows M.count self.old) item.entry.line (reading item.entry.asks) ≡ (bytes_of result, playing M.rows M.count self.new) }
     {
         let line = item.line;
-        self.obey(item)
-            .unwrap_or_else(|fault| Reply::refused(line, fault))
+        match self.obey(item) {
+            Ok(Some(ticket)) => Reply::Ticket(ticket),
+            Ok(None) => Reply::Nothing,
+            Err(fault) => Reply::refused(line, fault),
+        }
     }
 }

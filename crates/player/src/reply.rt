@@ -17,6 +17,7 @@ pub enum Reply {
 
 impl Reply {
     /// The line of a refusal: E, its number in two digits, and the line of the trace in five.
+    // It is public, and writes any number: so it asks for a number, and not for a fault.
     pub fn refusal(number: u8, line: usize) -> Reply
         ensures { bytes_of result ≡ refusal_line number line }
     {

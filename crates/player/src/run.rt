@@ -1,6 +1,6 @@
 //! A replay under way.
 
-ghost use Rattle.std.specs.Prelude.{◌≡◌, replicate, OnOk};
+ghost use Rattle.std.specs.Prelude.{◌≡◌, replicate, IfOk};
 ghost use Rattle.rules.specs.Rows.{blank_row};
 ghost use Rattle.rules.specs.Replay.{unopened};
 ghost use Rattle.player.specs.Players.{playing, opened};
@@ -22,53 +22,54 @@ pub(crate) struct Run<'a> {
 impl Run<'_> {
     ghost use Rattle.player.specs.Runs.{WritesRest};
 
-    /// Plays the lines that are left, and writes what they write.
-    fn play<M: Medium>(&mut self, player: &mut Player<M>) -> Result<(), AllocError>
-        ensures { OnOk result (WritesRest (playing M.rows M.count player.old) self.old self.new) }
+    /// Plays the lines that are left, and gives all that is written then.
+    fn play<M: Medium>(mut self, player: &mut Player<M>) -> Result<Vec<u8>, AllocError>
+        ensures { IfOk result (WritesRest (playing M.rows M.count player.old) self.entry) }
     {
-        while let Some(item) = self.reader.next_item() {
+        for item in self.reader {
             let reply = player.play(item);
             self.out.extend_from_slice(reply.bytes())?;
         }
-        Ok(())
+        Ok(self.out)
     }
 
     /// Plays the lines that are left over a blank medium of eight pages.
     fn play_over<M: Medium + Drop>(
-        &mut self,
+        self,
         medium: M,
         settings: Settings,
-    ) -> Result<(), AllocError>
+    ) -> Result<Vec<u8>, AllocError>
         requires { (M.rows medium ≡ replicate 128 blank_row) × (M.count medium ≡ 0) }
-        ensures { OnOk result (WritesRest (opened settings) self.old self.new) }
+        ensures { IfOk result (WritesRest (opened settings) self.entry) }
     {
-        let mut player = Player::open(medium, settings);
-        self.play(&mut player)
+        self.play(&mut Player::open(medium, settings))
     }
 
     /// Plays the lines that are left over a blank medium of the kind that they begin with.
-    fn play_from(&mut self, beginning: Beginning) -> Result<(), AllocError>
-        ensures { OnOk result (WritesRest (opened beginning.settings) self.old self.new) }
+    fn play_from(self, beginning: Beginning) -> Result<Vec<u8>, AllocError>
+        ensures { IfOk result (WritesRest (opened beginning.settings) self.entry) }
     {
         let settings = beginning.settings;
         let mut cells = [0xFF; 4096];
         let checked = Cells::check(&mut cells).unwrap();
+        // A match: each kind of medium is a type of its own.
         match beginning.kind {
             MediumKind::Flash => self.play_over(Flash::over(checked), settings),
             MediumKind::Sectors => self.play_over(Sectors::over(checked), settings),
         }
     }
 
-    /// Plays the lines that are left, from the one that begins on.
-    pub(crate) fn play_all(&mut self) -> Result<(), AllocError>
-        ensures { OnOk result (WritesRest unopened self.old self.new) }
+    /// Plays the lines that are left, from the one that begins on, and gives all that is written then.
+    pub(crate) fn play_all(mut self) -> Result<Vec<u8>, AllocError>
+        ensures { IfOk result (WritesRest unopened self.entry) }
     {
+        // No `for` over `&mut self.reader`: where it returns early, the proof does not know which lines are left.
         while let Some(item) = self.reader.next_item() {
             match begin(item) {
                 Ok(beginning) => return self.play_from(beginning),
                 Err(reply) => self.out.extend_from_slice(reply.bytes())?,
             }
         }
-        Ok(())
+        Ok(self.out)
     }
 }

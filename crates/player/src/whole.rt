@@ -11,10 +11,9 @@ use trace::Reader;
 pub fn replay(heap: Global, bytes: &[u8]) -> Result<Vec<u8>, AllocError>
     ensures { IfOk result (λ v. v.items ≡ trace_writes bytes.now) }
 {
-    let mut run = Run {
+    let run = Run {
         reader: Reader::over(bytes),
         out: Vec::new(heap),
     };
-    run.play_all()?;
-    Ok(run.out)
+    run.play_all()
 }

@@ -3,7 +3,8 @@ use Rattle.std.proofs.Common.{◌≡◌, ℕ, zero, suc, ◌+◌, ◌-◌, ◌*�
 use native.Mathlib.Nat.{pow-le-pow_right}
 use Rattle.std.proofs.lemmas.Int.Digits.{number_push}
 use Rattle.std.proofs.lemmas.List.{drop_more, map_more, take_all}
-use Rattle.std.proofs.lemmas.Bool.{le-leb, lt-leb, leb-true, and_parts}
+use Rattle.std.proofs.lemmas.Bool.{le-leb, lt-leb, leb-true, and_parts, cases_lt}
+use Rattle.std.specs.Char.{IsDigitOf, NotDecimalDigitIn}
 use Rattle.rules.specs.Lists.{number_of}
 use Rattle.rules.specs.Terminal.{all_digits, written}
 
@@ -34,6 +35,15 @@ module _ (text : List ℕ) (i : ℕ) (inside : i < length text) where
       never : (b : Bool) → ((b && false) && all_digits (drop (i + 1) text)) ≡ false
       never true = refl
       never false = refl
+
+-- what a byte is that is a digit, and what it is else
+pub digit_told : (c d : ℕ) → d < 10 → IsDigitOf c d → (48 ≤ c) × (c ≤ 57) × (d ≡ c - 48)
+digit_told c d small (inl h) = (omega arith, omega arith, omega arith)
+digit_told c d small (inr (inl h)) = absurd (omega arith)
+digit_told c d small (inr (inr h)) = absurd (omega arith)
+
+pub no_digit_told : (c : ℕ) → NotDecimalDigitIn 10 c → (c < 48) ⊎ (57 < c)
+no_digit_told c h = elim (cases_lt c 48) [ inl low ↦ inl low | inr low ↦ elim (cases_lt 57 c) [ inl high ↦ inr high | inr high ↦ absurd (omega (arith, h low high)) ] ]
 
 -- ---- What digits write is small
 

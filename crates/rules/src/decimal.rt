@@ -13,10 +13,7 @@ pub fn read_decimal(text: &[u8]) -> Option<u64>
     }
     let mut number = 0;
     for byte in text {
-        if !byte.is_ascii_digit() {
-            return None;
-        }
-        number = number * 10 + u64::from(*byte - b'0');
+        number = number * 10 + u64::from(char::from(*byte).to_digit(10)?);
     }
     Some(number)
 }

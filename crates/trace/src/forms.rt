@@ -32,6 +32,7 @@ impl<'a> Fields<'a> {
         ensures command { option_map meaning result ≡ next a_byte (words_left self.old) asks_by }
         ensures marks { MarksIn self.old.text.now result }
     {
+        // One match: each letter is followed by other words, so a table of letters would need a function for each.
         let command = match self.read(words::single)? {
             b'B' => Command::Begin {
                 kind: self.read(words::kind)?,

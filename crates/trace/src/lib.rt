@@ -15,3 +15,4 @@ mod words;
 pub use command::{Command, Item, MediumKind};
 pub use fault::TraceFault;
 pub use reader::Reader;
+pub use reading::LONGEST_TRACE;

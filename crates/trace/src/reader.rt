@@ -1,6 +1,7 @@
 ghost use Rattle.std.specs.Prelude.{◌≤◌, length};
 
 /// Walks over a trace line by line. It stands at the beginning of a line or at the end.
+// The whole trace, with a place in it: a rule of the project, so that nothing is copied and a mark can say where in the trace it begins.
 #[derive(Drop)]
 pub struct Reader<'a> {
     pub(crate) trace: &'a [u8],

@@ -12,7 +12,7 @@ use crate::reader::Reader;
 use crate::words::find;
 
 /// So many bytes at most are a trace.
-const LONGEST_TRACE: usize = 32_768;
+pub const LONGEST_TRACE: usize = 32_768;
 
 impl<'a> Reader<'a> {
     /// Over the first 32,768 bytes at most; what follows is not looked at.

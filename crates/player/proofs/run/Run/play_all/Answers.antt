@@ -8,7 +8,7 @@ returns-in-Ok c =
     let all =
     line_written _ _ _ _ _ _ _ _ _ _ c.loop-item.self.out.items _ c.in-Some.ensures.item c.in-Ok.ensures.says refl (sym (append-nil c.loop-item.self.out.items))
     ∙ c.loop-item.invariant in
-    subst (λ z. IfOk c.play_from.result (λ _. c.play_from.new.self.out.items ≡ z)) all c.play_from.ensures
+    subst (λ z. IfOk c.play_from.result (λ v. v.items ≡ z)) all c.play_from.ensures
 
 pub loop-item-preserved : goal.loop-item-preserved
 loop-item-preserved c =
