@@ -37,7 +37,7 @@ fn store<M: Medium>(terminal: &mut Terminal<M>, claim: Claim) -> Result<u32, Lin
         Ok(number) => Ok(number),
         Err((claim, fault)) => {
             terminal.void(claim);
-            Err(LineFault::from(fault))
+            Err(fault.into())
         }
     }
 }
@@ -72,7 +72,7 @@ impl<M: Medium> Player<M> {
         let terminal = &mut self.terminal;
         // One match: each command is another call of the terminal, with other values.
         match item.asks? {
-            Command::Begin { .. } => return Err(LineFault::Trace(TraceFault { line: item.line })),
+            Command::Begin { .. } => return Err(TraceFault { line: item.line }.into()),
             Command::Sample(load) => terminal.sample(Tenths(load))?,
             Command::Zero => terminal.set_zero()?,
             Command::Tare => terminal.take_tare()?,
