@@ -39,33 +39,33 @@ unfolding released_pages
 erase_begin rows day found e =
     (ap (erasable rows day) (round_is rows) ∙ ap (λ ps. ps ++ erasable rows day (turn (first_page (newest rows)) (pages rows))) (sym e), omega (arith, ap length e))
 
-module _ (rows : Rows) (day : ℕ) (found left rest : List ℕ) (p : ℕ) (more : left ≡ p ∷ rest) where
+module _ (rows : Rows) (day : ℕ) (found : List ℕ) {left rest all : List ℕ} {p : ℕ} (more : left ≡ p ∷ rest) (so_far : all ≡ found ++ erasable rows day left) where
   erase_next : erasable rows day left ≡ cond (stops_at rows day p) [] (cond (all_blank rows (rows_of p)) (erasable rows day rest) (p ∷ erasable rows day rest))
   unfolding erasable
   erase_next = ap (erasable rows day) more
 
   -- the release stops at the page
-  pub erase_stops : true ≡ stops_at rows day p → found ++ erasable rows day left ≡ found
+  pub erase_stops : true ≡ stops_at rows day p → all ≡ found
   erase_stops stops =
-      ap (λ ps. found ++ ps) (erase_next ∙ ap (λ t. cond t [] (cond (all_blank rows (rows_of p)) (erasable rows day rest) (p ∷ erasable rows day rest))) (sym stops))
+      so_far ∙ ap (λ ps. found ++ ps) (erase_next ∙ ap (λ t. cond t [] (cond (all_blank rows (rows_of p)) (erasable rows day rest) (p ∷ erasable rows day rest))) (sym stops))
       ∙ append-nil found
 
   -- it goes on after a blank page, and after one that is found
-  pub erase_passes : false ≡ stops_at rows day p → true ≡ all_blank rows (rows_of p) → found ++ erasable rows day left ≡ found ++ erasable rows day rest
+  pub erase_passes : false ≡ stops_at rows day p → true ≡ all_blank rows (rows_of p) → all ≡ found ++ erasable rows day rest
   erase_passes stays blank =
-      ap (λ ps. found ++ ps)
+      so_far ∙ ap (λ ps. found ++ ps)
       (erase_next ∙ ap₂ (λ t b. cond t [] (cond b (erasable rows day rest) (p ∷ erasable rows day rest))) (sym stays) (sym blank))
 
-  pub erase_finds : (then : List ℕ) → then ≡ found ++ (p ∷ []) → false ≡ stops_at rows day p → false ≡ all_blank rows (rows_of p) → found ++ erasable rows day left ≡ then ++ erasable rows day rest
+  pub erase_finds : (then : List ℕ) → then ≡ found ++ (p ∷ []) → false ≡ stops_at rows day p → false ≡ all_blank rows (rows_of p) → all ≡ then ++ erasable rows day rest
   erase_finds then one_more stays blank =
-      ap (λ ps. found ++ ps)
+      so_far ∙ ap (λ ps. found ++ ps)
       (erase_next ∙ ap₂ (λ t b. cond t [] (cond b (erasable rows day rest) (p ∷ erasable rows day rest))) (sym stays) (sym blank))
       ∙ sym (append_assoc found (p ∷ []) (erasable rows day rest))
       ∙ ap (λ ps. ps ++ erasable rows day rest) (sym one_more)
 
-pub erase_none : (rows : Rows) (day : ℕ) (found left : List ℕ) → left ≡ [] → found ++ erasable rows day left ≡ found
+pub erase_none : (rows : Rows) (day : ℕ) (found : List ℕ) {left all : List ℕ} → all ≡ found ++ erasable rows day left → left ≡ [] → all ≡ found
 unfolding erasable
-erase_none rows day found left e = ap (λ ps. found ++ erasable rows day ps) e ∙ append-nil found
+erase_none rows day found so_far e = so_far ∙ ap (λ ps. found ++ erasable rows day ps) e ∙ append-nil found
 
 among_drop : (p n : ℕ) (ps : List ℕ) → Among p (drop n ps) → Among p ps
 among_drop p zero ps m = m

@@ -1,5 +1,5 @@
 -- The next row takes a record, and what a store answers and leaves
-use Rattle.std.proofs.Common.{◌≡◌, ℕ, Bool, true, false, cond, ltb, ◌≤◌, List, set, Result, Ok, Err, sym, refl, ap, ◌∙◌, arith, Option, None, Some}
+use Rattle.std.proofs.Common.{◌≡◌, ℕ, Bool, true, false, cond, ltb, List, set, Result, Ok, Err, sym, refl, ap, ◌∙◌, Option, None, Some}
 use Rattle.std.specs.Option.{ok_or}
 use Rattle.rules.specs.Lists.{when_some}
 use Rattle.rules.specs.Records.{Record, numbered}
@@ -33,15 +33,6 @@ row_there rows (Some i) row e h k = sym h ∙ ap Some (cc k)
 pub row_missing : (rows : Rows) (o : Option ℕ) (e f : MemoryFault) → o ≡ next_row rows → ◌≡◌ {A = Result ℕ MemoryFault} (Err f) (ok_or o e) → next_row rows ≡ None
 row_missing rows None e f h k = sym h
 row_missing rows (Some i) e f h k = cc
-
--- the number that is next is 1 at least
-pub next_from_1 : (rows : Rows) → 1 ≤ next_number rows
-unfolding next_number
-next_from_1 rows = by (newest rows)
-  where
-    by : (o : Option (ℕ × Record)) → 1 ≤ number_after o
-    by None = omega arith
-    by (Some n) = omega arith
 
 -- the record under a number, if that is one of 32 bits
 abbrev numbered_within : (is_last : Bool) (number : ℕ) → Record → Outcome × Option Record

@@ -19,25 +19,29 @@ use Rattle.memory.specs.Rounds.{IsAround, if_numbered, may_follow}
 use Rattle.memory.proofs.PageScans.{counts_up}
 use Rattle.memory.proofs.Scans.{intact_next}
 
+-- ---- A turn of a loop over an iterator around, which has given some of the numbers
+
 -- an iterator around gives the numbers of the round
-pub around_gives : (first count : ℕ) (c it : Chain (Range ℕ) (Range ℕ)) → IsAround first count c → it ≡ c → YieldsList (chain_steps nat_range_steps nat_range_steps) (λ x. x) it (turn first count)
+around_gives : (first count : ℕ) (c it : Chain (Range ℕ) (Range ℕ)) → IsAround first count c → it ≡ c → YieldsList (chain_steps nat_range_steps nat_range_steps) (λ x. x) it (turn first count)
 around_gives first count c it h same =
     let whole : (chain_second c).end - (chain_second c).start ≡ first = ap (λ (r : Range ℕ). r.end - r.start) h.1 ∙ sub-zero first in
     YieldsList-at same
     (YieldsList-from_chain (counts_up (chain_first c) first (count - first) (ap (λ (r : Range ℕ). r.start) h.0) (ap (λ (r : Range ℕ). r.end - r.start) h.0))
     (counts_up (chain_second c) 0 first (ap (λ (r : Range ℕ). r.start) h.1) whole) h.2 h.3)
 
--- ---- A turn of a loop over an iterator that gives these numbers, which has given some of them
-
-module _ {S : Type 0} {steps : S → Option ℕ → S → Type 0} {s : S} {all : List ℕ} (gives : YieldsList steps (λ x. x) s all) (passed : List ℕ) (t : S) (so_far : Yields steps s passed t) (r : Option ℕ) (u : S) where
-  pub turn_more : (i : ℕ) → r ≡ Some i → steps t r u → drop (length passed) all ≡ i ∷ drop (length (passed ++ i ∷ [])) all
-  turn_more i is step =
-      let here = YieldsList-turn gives passed t so_far r u i is step in
+module _ (first count : ℕ) {c it : Chain (Range ℕ) (Range ℕ)} (around : IsAround first count c) (same : it ≡ c)
+    (passed : List ℕ) (t : Chain (Range ℕ) (Range ℕ)) (so_far : Yields (chain_steps nat_range_steps nat_range_steps) it passed t)
+    (r : Option ℕ) (u : Chain (Range ℕ) (Range ℕ)) (step : chain_steps nat_range_steps nat_range_steps t r u) where
+  -- it gives the next number
+  pub turn_more : (i : ℕ) → r ≡ Some i → drop (length passed) (turn first count) ≡ i ∷ drop (length (passed ++ i ∷ [])) (turn first count)
+  turn_more i is =
+      let here = YieldsList-turn (around_gives first count c it around same) passed t so_far r u i is step in
       let one_more : length passed + 1 ≡ length (passed ++ i ∷ []) = sym (length-append passed (i ∷ [])) in
-      drop_more all (length passed) i here.0 ∙ ap₂ (λ j n. j ∷ drop n all) (sym here.1) one_more
+      drop_more (turn first count) (length passed) i here.0 ∙ ap₂ (λ j n. j ∷ drop n (turn first count)) (sym here.1) one_more
 
-  pub turn_end : r ≡ None → steps t r u → drop (length passed) all ≡ []
-  turn_end is step = drop_all (length passed) all (omega (arith, (YieldsList-end gives passed t so_far r u is step).1))
+  -- it has given all
+  pub turn_end : r ≡ None → drop (length passed) (turn first count) ≡ []
+  turn_end is = drop_all (length passed) (turn first count) (omega (arith, (YieldsList-end (around_gives first count c it around same) passed t so_far r u is step).1))
 
 -- ---- The records that are left of a round
 
@@ -57,14 +61,15 @@ pub records_begin : (rows : Rows) (count : ℕ) → length rows ≡ 16 * count �
 unfolding along_round
 records_begin rows count whole = ap (intact_in rows) (round_rows rows count whole)
 
-module _ (rows : Rows) (left rest : List ℕ) (i : ℕ) (more : left ≡ i ∷ rest) where
+module _ (rows : Rows) {left rest : List ℕ} {i : ℕ} (more : left ≡ i ∷ rest) where
   -- the record of the next row, if it has one, and those after it
   next_records : intact_in rows left ≡ when_some (entry_in rows i) (intact_in rows rest) (λ x. x ∷ intact_in rows rest)
   next_records = ap (intact_in rows) more ∙ intact_next rows i rest
 
-  pub find_step : (n : ℕ) (o : Option Record) → o ≡ if_numbered n (entry_in rows i) → find_among n (intact_in rows left) ≡ or_else o (find_among n (intact_in rows rest))
+  -- the record with the number is that of the next row, or among the rest
+  pub find_step : (n : ℕ) {found o : Option Record} → found ≡ find_among n (intact_in rows left) → o ≡ if_numbered n (entry_in rows i) → found ≡ or_else o (find_among n (intact_in rows rest))
   unfolding find_among
-  find_step n o e = ap (find_among n) next_records ∙ by (entry_in rows i) ∙ ap (λ a. or_else a (find_among n (intact_in rows rest))) (sym e)
+  find_step n {found} {o} so_far e = so_far ∙ ap (find_among n) next_records ∙ by (entry_in rows i) ∙ ap (λ a. or_else a (find_among n (intact_in rows rest))) (sym e)
     where
       either : (x : ℕ × Record) (t : Bool) → cond t (Some x.1) (find_among n (intact_in rows rest)) ≡ or_else (cond t (Some x.1) None) (find_among n (intact_in rows rest))
       either x true = refl
@@ -75,23 +80,23 @@ module _ (rows : Rows) (left rest : List ℕ) (i : ℕ) (more : left ≡ i ∷ r
       by (Some x) = either x (eqb x.1.number n)
 
   -- after a row without a record the break is among the rest
-  pub order_passes : (last : Option Record) → None ≡ entry_in rows i → disorder_from last (intact_in rows left) ≡ disorder_from last (intact_in rows rest)
-  order_passes last e = ap (disorder_from last) (next_records ∙ ap (λ o. when_some o (intact_in rows rest) (λ x. x ∷ intact_in rows rest)) (sym e))
+  pub order_passes : (last : Option Record) {break : Option ℕ} → break ≡ disorder_from last (intact_in rows left) → None ≡ entry_in rows i → break ≡ disorder_from last (intact_in rows rest)
+  order_passes last so_far e = so_far ∙ ap (disorder_from last) (next_records ∙ ap (λ o. when_some o (intact_in rows rest) (λ x. x ∷ intact_in rows rest)) (sym e))
 
   -- after a record that may follow it is too; a record that may not is the break
-  pub order_more : (last : Option Record) (x : ℕ × Record) (t : Bool) → Some x ≡ entry_in rows i → t ≡ may_follow last x.1
-      → disorder_from last (intact_in rows left) ≡ cond t (disorder_from (Some x.1) (intact_in rows rest)) (Some x.0)
-  order_more last x t e is =
-      ap (disorder_from last) (next_records ∙ ap (λ o. when_some o (intact_in rows rest) (λ x. x ∷ intact_in rows rest)) (sym e))
+  pub order_more : (last : Option Record) (x : ℕ × Record) (t : Bool) {break : Option ℕ} → break ≡ disorder_from last (intact_in rows left) → Some x ≡ entry_in rows i → t ≡ may_follow last x.1
+      → break ≡ cond t (disorder_from (Some x.1) (intact_in rows rest)) (Some x.0)
+  order_more last x t so_far e is =
+      so_far ∙ ap (disorder_from last) (next_records ∙ ap (λ o. when_some o (intact_in rows rest) (λ x. x ∷ intact_in rows rest)) (sym e))
       ∙ order_next last x (intact_in rows rest) ∙ ap (λ t. cond t (disorder_from (Some x.1) (intact_in rows rest)) (Some x.0)) (sym is)
 
-pub none_found : (rows : Rows) (n : ℕ) (left : List ℕ) → left ≡ [] → find_among n (intact_in rows left) ≡ None
+pub none_found : (rows : Rows) (n : ℕ) {left : List ℕ} {found : Option Record} → found ≡ find_among n (intact_in rows left) → left ≡ [] → found ≡ None
 unfolding find_among intact_in
-none_found rows n left e = ap (λ is. find_among n (intact_in rows is)) e
+none_found rows n so_far e = so_far ∙ ap (λ is. find_among n (intact_in rows is)) e
 
-pub none_breaks : (rows : Rows) (last : Option Record) (left : List ℕ) → left ≡ [] → disorder_from last (intact_in rows left) ≡ None
+pub none_breaks : (rows : Rows) (last : Option Record) {left : List ℕ} {break : Option ℕ} → break ≡ disorder_from last (intact_in rows left) → left ≡ [] → break ≡ None
 unfolding disorder_among disorder_after intact_in
-none_breaks rows last left e = ap (λ is. disorder_from last (intact_in rows is)) e ∙ by last
+none_breaks rows last so_far e = so_far ∙ ap (λ is. disorder_from last (intact_in rows is)) e ∙ by last
   where
     by : (last : Option Record) → disorder_from last [] ≡ None
     by None = refl

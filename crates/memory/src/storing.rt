@@ -24,7 +24,7 @@ impl<M: Medium> Seen<'_, M> {
     }
 
     /// The record of a weighing under the number after the newest record's.
-    #[tactic(auto, using(crate::proofs::Storings::follows_next, crate::proofs::Storings::next_from_1))]
+    #[tactic(auto, using(crate::proofs::Storings::follows_next, rules::proofs::MemoryLaws::next_number_from_one))]
     fn record(&self, weighing: Weighing) -> Result<Record, MemoryFault>
         ensures says { follows (newest_of (M.rows self.now.medium.now)) (weighing_of weighing) ≡ (outcome result, record_found result) }
         ensures lawful { IfOk result (λ q. lawful (record_of q) ≡ true) }
