@@ -1,11 +1,12 @@
 -- The records of a memory, one by one
-use Rattle.std.proofs.Common.{◌≡◌, ℕ, zero, suc, ◌+◌, ◌-◌, ◌<◌, ◌≤◌, Bool, true, false, cond, ltb, List, [], ◌∷◌, length, sym, refl, ap, ◌∙◌, arith, Option, None, Some}
+use Rattle.std.proofs.Common.{◌≡◌, ℕ, zero, suc, ◌+◌, ◌-◌, ◌<◌, ◌≤◌, Bool, true, false, cond, ◌&&◌, ltb, List, [], ◌∷◌, length, sym, refl, ap, ◌∙◌, arith, Option, None, Some}
 use Rattle.std.proofs.lemmas.Bool.Decides.{nat_tests}
-use Rattle.rules.specs.Lists.{when_some, from}
-use Rattle.rules.specs.Records.{Record}
-use Rattle.rules.specs.Rows.{read_row}
+use Rattle.std.specs.Option.{option_or}
+use Rattle.rules.specs.Lists.{when_some, same, from}
+use Rattle.rules.specs.Records.{Record, lawful}
+use Rattle.rules.specs.Rows.{packing, unpacked, read_row}
 use Rattle.rules.specs.Memory.{Rows, row_at, intact_in, largest, newest}
-use Rattle.memory.specs.Entries.{entry_in, better_of}
+use Rattle.memory.specs.Entries.{row_in, entry_read, entry_in, is_older, better_of}
 
 -- a count with one number less
 pub from_next : (a n m : ℕ) → n ≡ suc m → from a n ≡ a ∷ from (a + 1) m
@@ -31,20 +32,6 @@ intact_next rows i is = by (read_row (row_at rows i))
 
 -- ---- The largest
 
-better_assoc : (a b c : Option (ℕ × Record)) → better_of (better_of a b) c ≡ better_of a (better_of b c)
-better_assoc None b c = refl
-better_assoc (Some x) None c = refl
-better_assoc (Some x) (Some y) None = either (ltb x.1.number y.1.number)
-  where
-    either : (t : Bool) → better_of (cond t (Some y) (Some x)) None ≡ cond t (Some y) (Some x)
-    either true = refl
-    either false = refl
-better_assoc (Some x) (Some y) (Some z) = at (ltb x.1.number y.1.number) refl (ltb y.1.number z.1.number) refl (ltb x.1.number z.1.number) refl
-  where
-    at : (p : Bool) → ltb x.1.number y.1.number ≡ p → (q : Bool) → ltb y.1.number z.1.number ≡ q → (r : Bool) → ltb x.1.number z.1.number ≡ r
-        → better_of (cond p (Some y) (Some x)) (Some z) ≡ better_of (Some x) (cond q (Some z) (Some y))
-    at p ep q eq r er = grind (arith, nat_tests)
-
 largest_more : (x : ℕ × Record) (xs : List (ℕ × Record)) → largest (x ∷ xs) ≡ better_of (Some x) (largest xs)
 unfolding largest
 largest_more x xs = by (largest xs)
@@ -61,23 +48,57 @@ scan_more rows i is = ap largest (intact_next rows i is) ∙ by (entry_in rows i
     by None = refl
     by (Some x) = largest_more x (intact_in rows is)
 
+-- a row that is there
+pub row_is : (rows : Rows) (i : ℕ) (row : List ℕ) → Some row ≡ row_in rows i → row ≡ row_at rows i
+row_is rows i row e = by (ltb i (length rows)) e
+  where
+    by : (b : Bool) → Some row ≡ cond b (Some (row_at rows i)) None → row ≡ row_at rows i
+    by true e = cc
+    by false e = cc
+
+-- a row whose number is smaller than the best's changes nothing, whatever else is in it
+pub older_stays : (i : ℕ) (row : List ℕ) (best : Option (ℕ × Record)) → true ≡ is_older row best → best ≡ better_of (entry_read i row) best
+unfolding read_row
+older_stays i row None e = cc
+older_stays i row (Some b) e = by (lawful (unpacked row) && same (packing (unpacked row)) row)
+  where
+    by : (t : Bool) → Some b ≡ better_of (when_some (cond t (Some (unpacked row)) None) None (λ r. Some (i, r))) (Some b)
+    by true = ap (λ t. cond t (Some b) (Some (i, unpacked row))) e
+    by false = refl
+
+-- any other row's record, if it has one, is the best then
+pub newer_wins : (i : ℕ) (row : List ℕ) (best : Option (ℕ × Record)) → false ≡ is_older row best → option_or (entry_read i row) best ≡ better_of (entry_read i row) best
+unfolding read_row
+newer_wins i row None e = by (entry_read i row)
+  where
+    by : (o : Option (ℕ × Record)) → option_or o None ≡ better_of o None
+    by None = refl
+    by (Some x) = refl
+newer_wins i row (Some b) e = by (lawful (unpacked row) && same (packing (unpacked row)) row)
+  where
+    by : (t : Bool)
+        → option_or (when_some (cond t (Some (unpacked row)) None) None (λ r. Some (i, r))) (Some b)
+        ≡ better_of (when_some (cond t (Some (unpacked row)) None) None (λ r. Some (i, r))) (Some b)
+    by true = ap (λ t. cond t (Some b) (Some (i, unpacked row))) e
+    by false = refl
+
 module _ (rows : Rows) where
-  pub newest_begin : newest rows ≡ better_of None (largest (intact_in rows (from 0 (length rows - 0))))
-  unfolding newest
-  newest_begin = let all : length rows ≡ length rows - 0 = omega arith in ap (λ n. largest (intact_in rows (from 0 n))) all
+  -- the best of the last so many rows
+  abbrev pub best_behind : (behind : ℕ) → Option (ℕ × Record)
+  best_behind behind = largest (intact_in rows (from (length rows - behind) behind))
 
-  pub newest_more : (i : ℕ) (best next : Option (ℕ × Record)) → i < length rows → next ≡ better_of best (entry_in rows i)
-      → better_of best (largest (intact_in rows (from i (length rows - i)))) ≡ better_of next (largest (intact_in rows (from (i + 1) (length rows - (i + 1)))))
-  newest_more i best next inside e =
-      ap (λ is. better_of best (largest (intact_in rows is))) (from_more i (length rows) inside)
-      ∙ ap (better_of best) (scan_more rows i (from (i + 1) (length rows - (i + 1))))
-      ∙ sym (better_assoc best (entry_in rows i) (largest (intact_in rows (from (i + 1) (length rows - (i + 1))))))
-      ∙ ap (λ b. better_of b (largest (intact_in rows (from (i + 1) (length rows - (i + 1)))))) (sym e)
-
-  pub newest_end : (i : ℕ) (best : Option (ℕ × Record)) → length rows ≤ i → better_of best (largest (intact_in rows (from i (length rows - i)))) ≡ best
+  pub behind_none : None ≡ best_behind 0
   unfolding largest intact_in
-  newest_end i best past = ap (λ is. better_of best (largest (intact_in rows is))) (from_none i (length rows) past) ∙ by best
-    where
-      by : (b : Option (ℕ × Record)) → better_of b None ≡ b
-      by None = refl
-      by (Some x) = refl
+  behind_none = refl
+
+  pub behind_more : (behind : ℕ) → behind < length rows → best_behind (behind + 1) ≡ better_of (entry_in rows (length rows - 1 - behind)) (best_behind behind)
+  behind_more behind inside =
+      let one_before : length rows - (behind + 1) ≡ length rows - 1 - behind = omega arith in
+      let one_on : length rows - (behind + 1) + 1 ≡ length rows - behind = omega arith in
+      ap (λ is. largest (intact_in rows is)) (from_next (length rows - (behind + 1)) (behind + 1) behind (omega arith) ∙ ap (λ a. (length rows - (behind + 1)) ∷ from a behind) one_on)
+      ∙ scan_more rows (length rows - (behind + 1)) (from (length rows - behind) behind)
+      ∙ ap (λ a. better_of (entry_in rows a) (best_behind behind)) one_before
+
+  pub behind_all : (behind : ℕ) → behind ≡ length rows → best_behind behind ≡ newest rows
+  unfolding newest
+  behind_all behind e = let none_before : length rows - behind ≡ 0 = omega arith in ap (λ a. largest (intact_in rows (from a behind))) none_before ∙ ap (λ n. largest (intact_in rows (from 0 n))) e

@@ -4,11 +4,11 @@ ghost use Rattle.std.specs.Prelude.{◌≡◌, option_map};
 ghost use Rattle.rules.specs.Rows.{read_row, is_blank};
 ghost use Rattle.rules.specs.Memory.{row_at, newest as newest_of};
 ghost use Rattle.records.specs.RecordsOf.{record_of};
-ghost use Rattle.memory.specs.Entries.{row_in, entry_of, entry_in, better_of};
+ghost use Rattle.memory.specs.Entries.{row_in, entry_of, entry_read, entry_in, is_older, better_of};
 
 use crate::entry::Entry;
 use media::Medium;
-use records::{Record, Verdict, judge};
+use records::{Record, Verdict, judge, number_in};
 use rules::is_blank;
 
 /// The bytes of a row, if the memory has it.
@@ -41,34 +41,51 @@ fn intact(row: &[u8; 32]) -> Option<Record>
     }
 }
 
+/// The record in the bytes of a row, if the row is intact.
+fn entry(row: usize, bytes: &[u8; 32]) -> Option<Entry>
+    ensures { option_map entry_of result ≡ entry_read row bytes.now }
+{
+    let weighing = intact(bytes)?;
+    Some(Entry { row, weighing })
+}
+
 /// The record in a row, if the row is intact.
 pub(crate) fn entry_at<M: Medium>(m: &M, row: usize) -> Option<Entry>
     ensures { option_map entry_of result ≡ entry_in (M.rows m.now) row }
 {
-    let bytes = bytes_of(m, row)?;
-    let weighing = intact(&bytes)?;
-    Some(Entry { row, weighing })
+    entry(row, &bytes_of(m, row)?)
 }
 
-/// The entry with the larger number, the first of equals.
-fn better(best: Option<Entry>, next: Option<Entry>) -> Option<Entry>
-    ensures { option_map entry_of result ≡ better_of (option_map entry_of best) (option_map entry_of next) }
+/// Whether a row with these bytes is older than the best so far, as its number alone shows.
+fn is_older(bytes: &[u8; 32], best: Option<Entry>) -> bool
+    ensures { result ≡ is_older bytes.now (option_map entry_of best) }
 {
-    match (best, next) {
-        (Some(a), Some(b)) if a.weighing.number < b.weighing.number => next,
-        (None, _) => next,
-        _ => best,
+    best.is_some_and(|found| number_in(bytes) < found.weighing.number)
+}
+
+/// The record in a row, or the best of the rows behind it: the one with the larger number, the first of equals.
+fn better<M: Medium>(m: &M, row: usize, best: Option<Entry>) -> Option<Entry>
+    ensures { option_map entry_of result ≡ better_of (entry_in (M.rows m.now) row) (option_map entry_of best) }
+{
+    let Some(bytes) = bytes_of(m, row) else {
+        return best;
+    };
+    // an older row need not be judged
+    if is_older(&bytes, best) {
+        return best;
     }
+    entry(row, &bytes).or(best)
 }
 
 /// The newest record: the intact one with the largest number, in the lowest row among equals.
 pub fn newest<M: Medium>(m: &M) -> Option<Entry>
     ensures { option_map entry_of result ≡ newest_of (M.rows m.now) }
 {
-    // an indexed loop over the rows, by a rule of the project
+    // an indexed loop over the rows, by a rule of the project: from the last on, since most rows are then older than the best so far
+    let count = m.size() * 16;
     let mut best = None;
-    for row in 0..m.size() * 16 {
-        best = better(best, entry_at(m, row));
+    for behind in 0..count {
+        best = better(m, count - 1 - behind, best);
     }
     best
 }

@@ -43,6 +43,11 @@ ones_of_words a b c d hb hc hd =
     ap ones (body_of_words a b c d) ∙ ones_cat 56 ((a * 2 ^ 64 + b) * 2 ^ 64 + c) (d / 256) (div_below d 256 (2 ^ 56) (omega arith) hd)
     ∙ ap (λ n. n + ones (d / 256)) (ones_cat 64 (a * 2 ^ 64 + b) c hc ∙ ap (λ n. n + ones c) (ones_cat 64 a b hb))
 
+-- the number of the record, by the first word
+pub number_of_words : (a b c d : ℕ) → b < 2 ^ 64 → c < 2 ^ 64 → d < 2 ^ 64
+    → (number_of (2 ^ 64) 0 (a ∷ b ∷ c ∷ d ∷ []) / 256 / 2 ^ 208) % 2 ^ 32 ≡ (a / 2 ^ 24) % 2 ^ 32
+number_of_words a b c d hb hc hd = let body = body_of_words a b c d in omega (arith, body)
+
 -- a number behind the last word
 last_word : (a b c d x : ℕ) → number_of (2 ^ 64) 0 (a ∷ b ∷ c ∷ (d + x) ∷ []) ≡ number_of (2 ^ 64) 0 (a ∷ b ∷ c ∷ d ∷ []) + x
 unfolding number_of

@@ -17,6 +17,6 @@ mod words;
 pub use line::{decimal, line_number};
 pub use mark::{Mark, NoMark};
 pub use record::{Record, Tare, Weight};
-pub use row::{Damage, Unlawful, Verdict, judge};
+pub use row::{Damage, Unlawful, Verdict, judge, number_in};
 pub use rules::is_blank;
 pub use weighing::Weighing;

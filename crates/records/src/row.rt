@@ -3,10 +3,11 @@
 ghost use Rattle.std.specs.Prelude.{◌≡◌, ◌+◌, ◌-◌, ◌/◌, ◌%◌, ◌^◌, ◌<◌, replicate, if◌then◌else◌, ◌==◌, count_ones, None, Some};
 ghost use Rattle.rules.specs.Lists.{same, number_of};
 ghost use Rattle.rules.specs.Records.{lawful};
-ghost use Rattle.rules.specs.Rows.{packing, judged};
+ghost use Rattle.rules.specs.Rows.{packing, unpacked, judged};
 ghost use Rattle.records.specs.RecordsOf.{record_of};
 ghost use Rattle.records.specs.Verdicts.{verdict_of, packed_says};
 
+use crate::bits::low_bits;
 use crate::fields::Fields;
 use crate::record::Record;
 use crate::words::{row_of, words_of};
@@ -73,6 +74,15 @@ pub fn judge(row: &[u8; 32]) -> Verdict
     Fields::read(words)
         .record()
         .map_or(Verdict::Damaged(Damage::Fields), Verdict::Intact)
+}
+
+/// The number in the fields of a row, be the row intact or not.
+pub fn number_in(row: &[u8; 32]) -> u32
+    ensures { result ≡ (unpacked row.now).number }
+{
+    // behind the kind, and before 24 bits of the first word
+    let [first, _, _, _] = words_of(row);
+    low_bits(first >> 24, 32) as u32
 }
 
 // Not by a trait: the row is one of several texts of a record, and the name says which.
