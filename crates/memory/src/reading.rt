@@ -53,7 +53,8 @@ fn entry(row: usize, bytes: &[u8; 32]) -> Option<Entry>
 pub(crate) fn entry_at<M: Medium>(m: &M, row: usize) -> Option<Entry>
     ensures { option_map entry_of result ≡ entry_in (M.rows m.now) row }
 {
-    entry(row, &bytes_of(m, row)?)
+    let bytes = bytes_of(m, row)?;
+    entry(row, &bytes)
 }
 
 /// Whether a row with these bytes is older than the best so far, as its number alone shows.
