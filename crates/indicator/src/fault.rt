@@ -54,6 +54,7 @@ impl Fault for CellFault {
     }
 
     fn place(self) -> usize {
+        // a match, so that a fault that is added must say its place
         match self {
             CellFault::OutOfRange => 0,
         }

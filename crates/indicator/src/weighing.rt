@@ -77,6 +77,7 @@ impl Indicator {
         let mark = entered.check()?;
         self.check_ready()?;
         let gross = self.load()?;
+        // number 0: by the rules a weighing has no other until it is stored
         let weighing = Weighing::try_from(Record {
             number: 0,
             day: entered.day,

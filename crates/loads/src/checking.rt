@@ -30,6 +30,7 @@ impl Fault for SettingsFault {
         }
     }
 
+    /// No rule names a place for these faults, so it is 0.
     fn place(self) -> usize {
         0
     }

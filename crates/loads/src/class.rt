@@ -18,6 +18,7 @@ pub(crate) struct ClassBounds {
     pub(crate) min: u16,
 }
 
+// A constant table, by a rule of the project.
 /// The bounds of each class.
 const CLASSES: [ClassBounds; 2] = [
     ClassBounds {
@@ -32,7 +33,7 @@ const CLASSES: [ClassBounds; 2] = [
     },
 ];
 
-// No `From`: a class has a number and three bounds, and the name of the function says which is meant.
+// No `From` into a number: a class has its own and three bounds, all numbers, and a name says which is meant.
 impl Class {
     /// The number of the class, 3 or 4.
     pub fn number(self) -> u8

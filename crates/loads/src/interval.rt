@@ -15,6 +15,7 @@ pub enum Interval {
     Fifty,
 }
 
+// Constant tables, by a rule of the project.
 /// The six intervals, by code.
 const INTERVALS: [Interval; 6] = [
     Interval::One,

@@ -105,6 +105,7 @@ impl Window {
     pub fn settled(&self) -> Option<Tenths>
         ensures { option_map tenths_of result ≡ (if nat_eq (length (window_of self.now)) 8 && stable (window_of self.now) then Some (mean_of (window_of self.now)) else None) }
     {
+        // no `then`: a closure for one call is no plainer
         if self.is_stable() { self.mean() } else { None }
     }
 }

@@ -23,6 +23,7 @@ pub(crate) enum Field {
     Check,
 }
 
+// A constant table, by a rule of the project.
 /// The width of each field in bits, in the order of the row.
 const WIDTHS: [u32; 14] = [8, 32, 16, 11, 3, 14, 2, 14, 14, 20, 29, 48, 37, 8];
 

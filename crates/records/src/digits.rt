@@ -9,6 +9,7 @@ pub(crate) fn digits<const BASE: u64, const ZERO: u8, const N: usize>(value: u64
     requires bytes { ZERO + BASE ≤ 256 }
     ensures { result ≡ map (λ digit. digit + ZERO) (digits_of BASE N value) }
 {
+    // last digit first, and then turned round: of what `iter_mut().rev()` leaves, no clause says anything yet
     let mut out = [0; N];
     let mut rest = value;
     for digit in out.iter_mut() {

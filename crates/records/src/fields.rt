@@ -37,6 +37,8 @@ pub(crate) struct Fields {
     spare: u64,
 }
 
+// Field by field, not in a loop over the table of widths: the loop took twice the instructions.
+// No `From`: each way asks for or tells more than `From` can say, and only a lawful record has fields.
 impl Fields {
     /// The fields in the words of a row.
     pub(crate) fn read(words: [u64; 4]) -> Fields

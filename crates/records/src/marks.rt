@@ -105,6 +105,7 @@ impl Mark {
         value
     }
 
+    // No `TryFrom`, as for `from_codes`.
     /// The mark in a number of 48 bits.
     pub(crate) fn from_value(value: u64) -> Result<Mark, NoMark>
         ensures { mark_says result ≡ (if lawful_mark (digits_of 64 8 value) then Some (digits_of 64 8 value) else None) }
@@ -117,6 +118,7 @@ impl Mark {
         ensures { result ≡ map character_of (codes_of self) }
     {
         let mut text = self.codes;
+        // no `map`: `character_of` has a precondition, and then the proof of an array's `map` does not close
         for code in text.iter_mut() {
             *code = character_of(*code);
         }

@@ -17,13 +17,14 @@ pub enum Tare {
     Preset(Weight),
 }
 
-// No `From`: a tare has a kind and a weight, both numbers, and the name of the function says which is meant.
+// No `From`: a tare has a kind and a weight, and the name of the function says which is meant.
 impl Tare {
     /// The tare, 0 where there is none.
     pub fn weight(self) -> Weight
         ensures { result.0 ≡ tare_value_of self }
     {
         match self {
+            // 0 and not an option: by the rules the weight of no tare is 0
             Tare::None => Weight(0),
             Tare::Weighed(weight) | Tare::Preset(weight) => weight,
         }

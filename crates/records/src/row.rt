@@ -37,7 +37,7 @@ pub enum Damage {
 pub struct Unlawful;
 
 /// Whether all bits are ones.
-// Not by `is_blank`: the judge has the row in four words, and in 32 bytes it would look eight times as often.
+// Not by `is_blank`, which would be no plainer: the judge has the row in words already, and this is one comparison.
 fn are_ones(words: [u64; 4]) -> bool
     ensures { result ≡ same words (replicate 4 (2 ^ 64 - 1)) }
 {

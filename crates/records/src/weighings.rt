@@ -22,6 +22,7 @@ impl TryFrom<Record> for Weighing {
             return Err(Unlawful);
         }
         Ok(Weighing {
+            // by the rules a weighing has number 0 until it is stored
             entries: Record {
                 number: 0,
                 ..entries

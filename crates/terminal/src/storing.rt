@@ -21,6 +21,7 @@ fn is_before(day: u16, latest: Option<Entry>) -> bool
     latest.is_some_and(|entry| day < entry.weighing.day)
 }
 
+// Whoever writes to a medium owes the clause `lender`: it is a fact about the call, not about a value.
 impl<M: Medium> Terminal<M> {
     /// Stores the weighing that is pending, under the number that is answered. A refusal hands the claim back.
     pub fn store(&mut self, claim: Claim) -> Result<u32, (Claim, StoreFault)>

@@ -27,6 +27,7 @@ impl<'a> Reader<'a> {
         }
     }
 
+    // Beside `next` below: a clause of an iterator cannot say which lines are left, and a replay needs that.
     /// The next line, if there is one.
     pub fn next_item(&mut self) -> Option<Item<'a>>
         ensures item { handed result self.new ≡ next_line (standing self.old).0 (standing self.old).1 }
