@@ -86,7 +86,8 @@ pub fn release<M: Medium>(m: &mut M, day: u16) -> usize
     let found = released_pages(&*m, day);
     let pages = found.as_slice();
     for &page in pages {
-        let _ = m.erase(page);
+        // a page of the round is one of the memory's
+        m.erase(page).unwrap();
     }
     pages.len()
 }
