@@ -5,4 +5,5 @@ pub mod PageScans
 pub mod NextRows
 pub mod Storings
 pub mod Turns
+pub mod Firsts
 pub mod Releases

@@ -1,5 +1,5 @@
 -- The pages of a release, one by one along the round
-use Rattle.std.proofs.Common.{◌≡◌, ℕ, zero, suc, ◌+◌, ◌-◌, ◌*◌, ◌%◌, ◌^◌, ◌<◌, ◌≤◌, Bool, true, false, cond, ◌||◌, eqb, List, [], ◌∷◌, ◌++◌, map, drop, length, get_or, take, set, MatchOption, sym, refl, ap, ◌∙◌, subst, ap₂, inl, inr, append_assoc, append-nil, arith, Option, None, Some}
+use Rattle.std.proofs.Common.{◌≡◌, ℕ, zero, suc, ◌+◌, ◌-◌, ◌*◌, ◌%◌, ◌^◌, ◌<◌, ◌≤◌, Bool, true, false, cond, ◌||◌, eqb, List, [], ◌∷◌, ◌++◌, map, drop, length, get_or, take, set, MatchOption, sym, refl, ap, ◌∙◌, subst, ap₂, inl, inr, append_assoc, append-nil, arith, Option, None, Some, Result, Ok, Err, IsOk}
 use Rattle.std.specs.Prelude.{option_map}
 use Rattle.std.proofs.lemmas.List.{length-append, length-drop, take_all, take_more}
 use Rattle.std.proofs.lemmas.Bool.{lt-ltb}
@@ -10,9 +10,12 @@ use Rattle.rules.specs.Memory.{Rows, pages, page_of, rows_of, intact_in, dated_f
 use Rattle.rules.proofs.Rounds.{pages_append, turn, turn_among}
 use Rattle.rules.proofs.Erasing.{blanked_length}
 use Rattle.rules.proofs.Memories.{first_page, round_is, start_fits}
+use Rattle.media.specs.declared.medium.MediumFault.{MediumFault}
+use Rattle.media.specs.Outcomes.{fault_number, fault_place, outcome}
 use Rattle.memory.specs.declared.entry.Entry.{Entry}
 use Rattle.memory.specs.Entries.{entry_of}
 use Rattle.memory.specs.Releases.{releases}
+use Rattle.memory.proofs.Judged.{not_both}
 
 -- whether a release stops, by whether it stops at a date and what is told of the newest record
 pub stops_told :
@@ -146,6 +149,14 @@ erase_told rows left writes then page o inside e =
     let done = sym e ∙ ap (λ t. cond t (accepted, erased rows (page ∷ []), one_more writes) (refused 2 page, rows, writes)) (lt-ltb page (pages rows) inside) in
     (ap (λ x. x.1) done, ap (λ x. x.2) done)
 
+-- and that it is not refused
+pub erase_takes :
+    {A : Type 0} (rows left : Rows) (writes then page : ℕ) (r : Result A MediumFault) → page < pages rows → erases rows writes page ≡ (outcome r, left, then) → IsOk r
+erase_takes rows left writes then page (Ok x) inside e = refl
+erase_takes rows left writes then page (Err f) inside e =
+    let done = ap (λ t. cond t (accepted, erased rows (page ∷ []), one_more writes) (refused 2 page, rows, writes)) (lt-ltb page (pages rows) inside) in
+    absurd (not_both (fault_number f) (fault_place f) (ap (λ x. x.0) (sym done ∙ e)))
+
 pub count_on : (writes i : ℕ) → one_more ((writes + i) % 2 ^ 32) ≡ (writes + (i + 1)) % 2 ^ 32
 count_on writes i = omega arith
 
@@ -156,6 +167,14 @@ count_none writes h = omega arith
 module _ (before : Rows) (day count : ℕ) (whole : length before ≡ 16 * count) (ps : List ℕ) (all : ps ≡ released_pages before day) (i : ℕ) (inside : i < length ps) where
   next_inside : get_or ps i 0 < pages before
   next_inside = released_inside before day count whole (get_or ps i 0) (subst (Among (get_or ps i 0)) all (getD_among ps i inside))
+
+  -- the medium does not refuse it
+  pub release_takes :
+      {A : Type 0} (rows left : Rows) (writes then : ℕ) (r : Result A MediumFault) → rows ≡ erased before (take i ps)
+      → erases rows writes (get_or ps i 0) ≡ (outcome r, left, then) → IsOk r
+  release_takes rows left writes then r so_far e =
+      let same : length rows ≡ length before = ap length so_far ∙ erased_length before (take i ps) in
+      erase_takes rows left writes then (get_or ps i 0) r (omega (arith, next_inside, same)) e
 
   pub release_step :
       (rows left : Rows) (start writes then : ℕ) (o : Outcome) → rows ≡ erased before (take i ps) → writes ≡ (start + i) % 2 ^ 32

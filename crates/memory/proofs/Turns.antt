@@ -22,7 +22,7 @@ use Rattle.memory.proofs.Scans.{intact_next}
 -- ---- A turn of a loop over an iterator around, which has given some of the numbers
 
 -- an iterator around gives the numbers of the round
-around_gives : (first count : ℕ) (c it : Chain (Range ℕ) (Range ℕ)) → IsAround first count c → it ≡ c → YieldsList (chain_steps nat_range_steps nat_range_steps) (λ x. x) it (turn first count)
+pub around_gives : (first count : ℕ) (c it : Chain (Range ℕ) (Range ℕ)) → IsAround first count c → it ≡ c → YieldsList (chain_steps nat_range_steps nat_range_steps) (λ x. x) it (turn first count)
 around_gives first count c it h same =
     let whole : (chain_second c).end - (chain_second c).start ≡ first = ap (λ (r : Range ℕ). r.end - r.start) h.1 ∙ sub-zero first in
     YieldsList-at same

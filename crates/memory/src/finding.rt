@@ -35,12 +35,9 @@ impl<M: Medium> Seen<'_, M> {
     fn find(&self, number: u64) -> Result<Record, MemoryFault>
         ensures { finds (M.rows self.now.medium.now) number ≡ (outcome result, record_found result) }
     {
-        for row in self.rows() {
-            if let Some(found) = if_numbered(entry_at(self.medium, row), number) {
-                return Ok(found);
-            }
-        }
-        Err(MemoryFault::Unknown)
+        self.rows()
+            .find_map(|row| if_numbered(entry_at(self.medium, row), number))
+            .ok_or(MemoryFault::Unknown)
     }
 }
 

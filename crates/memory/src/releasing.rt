@@ -81,12 +81,14 @@ pub fn released_pages<M: Medium>(m: &M, day: u16) -> Pages
 /// Erases the pages of a release for a day, one write each; answers how many.
 pub fn release<M: Medium>(m: &mut M, day: u16) -> usize
     ensures says { releases (M.rows m.old) (M.count m.old) day ≡ (result, M.rows m.new, M.count m.new) }
+    // as in storing.rt: whoever writes owes this clause, a fact about the call
     ensures lender { M.lender m.new ≡ M.lender m.old }
 {
     let found = released_pages(&*m, day);
     let pages = found.as_slice();
     for &page in pages {
-        let _ = m.erase(page);
+        // a page of the round is one of the memory's
+        m.erase(page).unwrap();
     }
     pages.len()
 }

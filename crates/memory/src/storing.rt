@@ -42,6 +42,7 @@ impl<M: Medium> Seen<'_, M> {
 /// Programs a record into the next row, which is one write.
 fn write<M: Medium>(m: &mut M, row: usize, weighed: Record) -> Result<(), MemoryFault>
     requires { (next_row (M.rows m.old) ≡ Some row) × (lawful (record_of weighed) ≡ true) }
+    // rows and count are the two halves of what a medium means, so both are named
     ensures says { writes_record (M.rows m.old) (M.count m.old) row (record_of weighed) ≡ (outcome result, M.rows m.new, M.count m.new) }
     ensures lender { M.lender m.new ≡ M.lender m.old }
 {

@@ -1,10 +1,16 @@
 use Rattle.std.proofs.Common.{◌≡◌, length, sym, refl, ◌∙◌, arith}
-use Rattle.memory.proofs.Releases.{erased_none, count_none, release_step, release_done}
+use Rattle.memory.proofs.Releases.{erased_none, count_none, release_takes, release_step, release_done}
 use Rattle.memory.proofs.releasing.release.Goals as goal
 
 pub loop-page-init : goal.loop-page-init
 loop-page-init g c =
     let m = c.args.m.now in (sym (erased_none (g.M.Medium.rows m)), count_none (g.M.Medium.count m) (g.M.Medium.fits m), refl)
+
+pub unwrap-requires : goal.unwrap-requires
+unwrap-requires g c =
+    let shape = g.M.Medium.shape c.args.m.now in
+    let all = c.as_slice-pages.ensures ∙ c.released_pages-found.ensures in
+    release_takes (g.M.Medium.rows c.args.m.now) c.args.day shape.pages shape.whole c.as_slice-pages.result.now all c.loop-page.page-index c.loop-page-test.true _ _ _ _ _ c.loop-page.invariant.0 c.erase.ensures.says
 
 pub loop-page-preserved : goal.loop-page-preserved
 loop-page-preserved g c =
