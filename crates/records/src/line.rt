@@ -40,7 +40,7 @@ impl Tare {
     }
 }
 
-// No `Display`: its 76 bytes are promised one by one, and a formatter has no clause for what it writes.
+// No `Display`: a line is 76 bytes for a caller's buffer, with no heap, and a formatter would first have to be one over a buffer.
 impl Record {
     /// The ticket line: 76 bytes of ASCII with a line feed at the end; weights in kg.
     pub fn line(self) -> [u8; 76]
