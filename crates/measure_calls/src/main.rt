@@ -8,7 +8,7 @@ use anyhow::{Context, Error, anyhow};
 use indicator::Entered;
 use loads::Tenths;
 use media::{Cells, Flash, Medium, MediumFault, Sectors};
-use rules::Fault;
+use rules::{Fault, MediumKind};
 use std::env;
 use std::str::FromStr;
 use terminal::{Claim, StoreFault, Terminal};
@@ -35,26 +35,6 @@ impl FromStr for Call {
             "release" => Ok(Call::Release),
             "none" => Ok(Call::Nothing),
             _ => Err(anyhow!("no such call: {word}")),
-        }
-    }
-}
-
-/// The kind of the medium.
-// A trace's `MediumKind` has the same two, but this program has no other use for a reader of traces.
-#[derive(Clone, Copy)]
-enum Kind {
-    Flash,
-    Sectors,
-}
-
-impl FromStr for Kind {
-    type Err = Error;
-
-    fn from_str(word: &str) -> Result<Kind, Error> {
-        match word {
-            "flash" => Ok(Kind::Flash),
-            "sectors" => Ok(Kind::Sectors),
-            _ => Err(anyhow!("no such kind: {word}")),
         }
     }
 }
@@ -136,11 +116,12 @@ fn run<M: Medium + Drop>(mut medium: M, call: Call) -> anyhow::Result<u64> {
 }
 
 /// The call over so many blank pages of a kind.
-fn measure(cells: &mut [u8], kind: Kind, call: Call) -> anyhow::Result<u64> {
+fn measure(cells: &mut [u8], kind: MediumKind, call: Call) -> anyhow::Result<u64> {
     let cells = Cells::check(cells).ok().context("2 to 64 pages")?;
+    // A match: each kind of medium is a type of its own.
     match kind {
-        Kind::Flash => run(Flash::over(cells), call),
-        Kind::Sectors => run(Sectors::over(cells), call),
+        MediumKind::Flash => run(Flash::over(cells), call),
+        MediumKind::Sectors => run(Sectors::over(cells), call),
     }
 }
 
@@ -151,7 +132,11 @@ fn main(rt: HostRuntime) -> anyhow::Result<()> {
     let pages = words.next().context("how many pages?")?;
     let pages = pages.as_str().parse::<u16>()?;
     let mut cells = vec![in rt.alloc(); 0xFF; usize::from(pages.min(64)) * 512]?;
-    let answer = measure(&mut cells, kind.as_str().parse()?, call.as_str().parse()?)?;
+    let kind = kind
+        .as_str()
+        .parse()
+        .map_err(|_| anyhow!("no such kind: {kind}"))?;
+    let answer = measure(&mut cells, kind, call.as_str().parse()?)?;
     println!(rt; "{answer}")?;
     Ok(())
 }

@@ -8,6 +8,7 @@
 mod blank;
 mod decimal;
 mod fault;
+mod kind;
 mod layer;
 
 ghost use Rattle.rules.specs.Laws.{RoundsToNearest, PricesToNearest, StableIsWithinFive, CheckPassesGoodSettings, PackedRowsRead, ReadRowsArePacked, PackingsDiffer, WornRowsAreWhole, BlankRowsAreNotIntact, JudgeFindsIntactRows, NewestIsLargest, OrderIsRising, NumbersDiffer, NextRowIsNext, NextRowIsBlank, StoreKeepsOrder, CutStoreKeepsOrder, ReleasesOldPages, ErasesWholePages, ReleaseKeepsOrder, CutReleaseKeepsOrder, LinesHave76Bytes, VerifiesWhatIsFound, LinesDiffer, PrintsWhatIsFound, FirstStoreIsAccepted, LinesAreTheTrace, LinesEndAtLineFeeds, KindMakesNoDifference};
@@ -17,6 +18,7 @@ ghost use Rattle.rules.specs.Promise.{KeepsRecords};
 pub use blank::is_blank;
 pub use decimal::read_decimal;
 pub use fault::Fault;
+pub use kind::{MediumKind, NoKind};
 pub use layer::Layer;
 
 /// The cases worked by hand are what the rules compute.

@@ -1,4 +1,4 @@
-use rules::Fault;
+use rules::{Fault, MediumKind};
 use std::fmt::Display;
 use std::io;
 use std::io::Write;
@@ -7,7 +7,7 @@ use std::io::Write;
 #[derive(Clone, Copy)]
 pub struct Lines<'a> {
     pub(crate) rt: &'a HostRuntime,
-    pub(crate) kind: &'a str,
+    pub(crate) kind: MediumKind,
 }
 
 impl Lines<'_> {

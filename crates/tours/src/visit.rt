@@ -5,6 +5,7 @@ use crate::lines::Lines;
 use media::{Cells, Flash, Medium, Sectors};
 use memory::{MemoryFault, release};
 use records::Record;
+use rules::MediumKind;
 use std::io;
 
 /// A medium that is visited, and the lines that are written of it.
@@ -81,13 +82,16 @@ pub fn tour_both<T: Tour>(rt: &HostRuntime, content: [u8; 1024]) -> io::Result<(
     let mut one = content;
     let mut other = content;
     T::visit(Visit {
-        lines: Lines { rt, kind: "flash" },
+        lines: Lines {
+            rt,
+            kind: MediumKind::Flash,
+        },
         medium: Flash::over(Cells::check(&mut one).unwrap()),
     })?;
     T::visit(Visit {
         lines: Lines {
             rt,
-            kind: "sectors",
+            kind: MediumKind::Sectors,
         },
         medium: Sectors::over(Cells::check(&mut other).unwrap()),
     })?;

@@ -3,8 +3,8 @@ use Rattle.std.specs.Prelude.{◌≡◌, ◌≤◌, ℕ, List, length, take, dro
 use Rattle.std.specs.Borrow.{Bor}
 use Rattle.rules.specs.Terminal.{set_zero, take_tare, clear_tare, preset_tare}
 use Rattle.rules.specs.Trace.{Kind, flash, sectors, Command as TheCommand, to_begin, to_sample, to_press, to_weigh, to_reopen, to_release, to_print, Reading, asks, refused, first_as, lines, trace_limit, next_line}
-use Rattle.trace.specs.declared.command.MediumKind.{MediumKind}
-use Rattle.trace.specs.declared.command.MediumKind.TheVariants.{Flash, Sectors}
+use Rattle.rules.specs.declared.kind.MediumKind.{MediumKind}
+use Rattle.rules.specs.declared.kind.MediumKind.TheVariants.{Flash, Sectors}
 use Rattle.trace.specs.declared.command.Command.{Command}
 use Rattle.trace.specs.declared.command.Command.TheVariants.{Begin, Sample, Zero, Tare, Preset, ClearTare, Weigh, Reopen, Release, Print}
 use Rattle.trace.specs.declared.command.Item.{Item}

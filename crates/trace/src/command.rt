@@ -1,12 +1,5 @@
 use crate::fault::TraceFault;
-
-/// The kinds of media.
-// `measure_calls` has a `Kind` of its own: that program has no use for a reader of traces.
-#[derive(Clone, Copy, Debug, PartialEq, Eq)]
-pub enum MediumKind {
-    Flash,
-    Sectors,
-}
+use rules::MediumKind;
 
 /// What a line asks for.
 #[derive(Clone, Copy, Debug, PartialEq, Eq)]

@@ -12,7 +12,8 @@ mod reader;
 mod reading;
 mod words;
 
-pub use command::{Command, Item, MediumKind};
+pub use command::{Command, Item};
 pub use fault::TraceFault;
 pub use reader::Reader;
 pub use reading::LONGEST_TRACE;
+pub use rules::MediumKind;

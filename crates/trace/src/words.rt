@@ -4,8 +4,7 @@ ghost use Rattle.std.specs.Prelude.{◌≡◌, ◌<◌, ◌==◌, position, IfSo
 ghost use Rattle.rules.specs.Trace.{a_byte, a_number, a_load, a_day, a_mark, a_kind};
 ghost use Rattle.trace.specs.Meaning.{kind_of};
 
-use crate::command::MediumKind;
-use rules::read_decimal;
+use rules::{MediumKind, read_decimal};
 
 /// A number has at most so many digits.
 const LONGEST_NUMBER: usize = 9;
