@@ -79,6 +79,7 @@ impl Sample {
 /// The records 1 to 64.
 fn samples(heap: Global) -> anyhow::Result<Vec<Sample>> {
     let mut all = Vec::with_capacity(heap, 64)?;
+    // No `map`: its closure would have to know that a number is at least 1.
     for number in 1..=64 {
         all.push(Sample {
             held: example(number, 9500),

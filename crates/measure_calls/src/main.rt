@@ -57,7 +57,7 @@ fn fill<M: Medium>(medium: &mut M) -> Result<(), MediumFault> {
 }
 
 /// Stores the weighing that is pending, and voids it where it is refused.
-// Not shared: each program does another thing with the claim, and the edits of misuse/ are planted where a lorry is weighed once.
+// The terminal hands a refused claim back, so that its caller says what becomes of it: here it is given up.
 fn store<M: Medium>(terminal: &mut Terminal<M>, claim: Claim) -> Result<u64, StoreFault> {
     terminal.store(claim).map(u64::from).map_err(|(claim, fault)| {
         terminal.void(claim);

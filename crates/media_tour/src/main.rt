@@ -5,7 +5,7 @@
 use media::{Medium, MediumFault, check_bytes};
 use rules::Fault;
 use std::{fmt, io};
-use tours::{Tour, Visit, tour_both};
+use tours::{Refused, Tour, Visit, tour_both};
 
 /// One call of a medium.
 #[derive(Clone, Copy)]
@@ -74,11 +74,7 @@ impl Tour for Steps {
         for step in STEPS {
             match act(&mut medium, step) {
                 Ok(first) => lines.tell(format_args!("{step}: {first:02X}"))?,
-                Err(fault) => lines.tell(format_args!(
-                    "{step}: refused {} at {}",
-                    fault.number(),
-                    fault.place()
-                ))?,
+                Err(fault) => lines.tell(format_args!("{step}: {}", Refused(fault)))?,
             }
         }
         lines.tell(format_args!("{} pages, {} writes", medium.size(), medium.writes()))

@@ -5,9 +5,8 @@
 use media::Medium;
 use memory::{Entry, MemoryFault, append, check_order, find, newest, next_number, next_row};
 use records::Record;
-use rules::Fault;
 use std::io;
-use tours::{Calls, Tour, Visit, example, tour_both};
+use tours::{Calls, Refused, Tour, Visit, example, tour_both};
 
 /// Writes what is found in a memory.
 fn tell<M: Medium + Drop>(memory: &Visit<'_, M>) -> io::Result<()> {
@@ -22,7 +21,7 @@ fn tell<M: Medium + Drop>(memory: &Visit<'_, M>) -> io::Result<()> {
     }
     match check_order(medium) {
         Ok(()) => lines.tell("in order")?,
-        Err(fault) => lines.tell(format_args!("refused {} at {}", fault.number(), fault.place()))?,
+        Err(fault) => lines.tell(Refused(fault))?,
     }
     let number = next_number(medium);
     match next_row(medium) {

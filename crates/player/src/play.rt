@@ -32,6 +32,7 @@ fn print<M: Medium>(terminal: &Terminal<M>, number: u32) -> Result<[u8; 76], Lin
 fn store<M: Medium>(terminal: &mut Terminal<M>, claim: Claim) -> Result<u32, LineFault>
     ensures { then_printed (acts a_store (world M.rows M.count terminal.old)) ≡ then_print result (world M.rows M.count terminal.new) }
 {
+    // The terminal hands a refused claim back, so that its caller says what becomes of it: here it is given up.
     // A match: of what a closure in `map_err` does to the terminal the proof learns nothing.
     match terminal.store(claim) {
         Ok(number) => Ok(number),
@@ -85,6 +86,7 @@ impl<M: Medium> Player<M> {
                 unit_price,
                 ..
             } => {
+                // Field by field: a trace stands on no layer of the terminal, so its command has no `Entered`.
                 let entered = Entered {
                     day,
                     minute,

@@ -5,8 +5,10 @@
 
 mod examples;
 mod lines;
+mod refused;
 mod visit;
 
 pub use examples::{example, settings};
 pub use lines::Lines;
+pub use refused::Refused;
 pub use visit::{Calls, Tour, Visit, tour_both};

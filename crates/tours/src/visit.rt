@@ -25,6 +25,7 @@ impl<M: Medium + Drop> Visit<'_, M> {
     /// Releases up to a day, and writes how many pages were erased.
     pub fn tell_release(&mut self, day: u16) -> io::Result<()>
         ensures says { (pages : ℕ) × (releases (M.rows self.old.medium) (M.count self.old.medium) day ≡ (pages, M.rows self.new.medium, M.count self.new.medium)) }
+        // Whoever writes to a medium owes this clause: it is a fact about the call, not about a value.
         ensures lender { M.lender self.new.medium ≡ M.lender self.old.medium }
     {
         let erased = release(&mut self.medium, day);

@@ -5,10 +5,9 @@
 use indicator::{Entered, IndicatorFault};
 use loads::{Intervals, Tenths};
 use media::Medium;
-use rules::Fault;
 use std::io;
 use terminal::{Claim, Terminal};
-use tours::{Lines, Tour, Visit, settings, tour_both};
+use tours::{Lines, Refused, Tour, Visit, settings, tour_both};
 
 /// What the cell sends while the lorry stands on the platform, in tenths of an interval.
 const LORRY: [i32; 8] = [12431, 12432, 12430, 12429, 12430, 12431, 12433, 12430];
@@ -68,10 +67,9 @@ impl<M: Medium + Drop> Weighbridge<'_, M> {
     }
 
     /// Stores what was weighed, and voids what is not stored.
-    // Not shared: each program does another thing with the claim, and the edits of misuse/ are planted in these arms.
     fn store(&mut self, claim: Claim) -> io::Result<()> {
         let lines = self.lines;
-        // A match: a claim is linear, and `?` and `ok_or` would take it where it is still needed.
+        // A match: each arm writes another line, and a refused claim must be given up first.
         match self.terminal.store(claim) {
             Ok(number) => lines.tell(format_args!("weighed and stored under number {number}")),
             Err((claim, fault)) => {
@@ -85,11 +83,9 @@ impl<M: Medium + Drop> Weighbridge<'_, M> {
     fn verify(&self, line: &[u8]) -> io::Result<()> {
         match self.terminal.verify(line) {
             Ok(()) => self.lines.tell("the line is confirmed"),
-            Err(fault) => self.lines.tell(format_args!(
-                "the line is refused {} at {}",
-                fault.number(),
-                fault.place()
-            )),
+            Err(fault) => self
+                .lines
+                .tell(format_args!("the line is {}", Refused(fault))),
         }
     }
 
