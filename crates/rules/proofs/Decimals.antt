@@ -59,8 +59,11 @@ first_digits_small text e (suc i) h =
     let before = first_digits_small text e i (omega (arith, h)) in
     let next : i + 1 ≡ suc i = omega arith in
     omega (
-      arith, digit_more text i (written (take i text)) (omega (arith, h)) refl, digit_room i (written (take i text)) (get_or text i 0 - 48) (digit_at text i (omega (arith, h)) e) before,
-      ap (λ n. written (take n text)) next, ap (λ n. 10 ^ n) next
+      arith,
+      digit_more text i (written (take i text)) (omega (arith, h)) refl,
+      digit_room i (written (take i text)) (get_or text i 0 - 48) (digit_at text i (omega (arith, h)) e) before,
+      ap (λ n. written (take n text)) next,
+      ap (λ n. 10 ^ n) next,
     )
 
 pub digits_small : (text : List ℕ) (most : ℕ) → length text ≤ most → all_digits text ≡ true → written text < 10 ^ most
