@@ -1,4 +1,4 @@
-use Rattle.std.proofs.Common.{◌≡◌, ℕ, ◌^◌, ◌<◌, ◌≤◌, Bool, true, false, cond, ◌&&◌, leb, List, length, sym, refl, ap, ◌∙◌, arith, rules, Option, None, Some}
+use Rattle.std.proofs.Common.{◌≡◌, ℕ, ◌^◌, ◌<◌, ◌≤◌, Bool, true, false, cond, ◌&&◌, leb, List, length, sym, refl, ◌∙◌, arith, rules, Option, None, Some}
 use Rattle.std.proofs.lemmas.Bool.{le-leb, and_parts}
 use Rattle.rules.specs.Terminal.{all_digits, written}
 use Rattle.rules.specs.Trace.{a_number}
