@@ -79,7 +79,7 @@ impl Sample {
 /// The records 1 to 64.
 fn samples(heap: Global) -> anyhow::Result<Vec<Sample>> {
     let mut all = Vec::with_capacity(heap, 64)?;
-    // No `map`: its closure would have to know that a number is at least 1.
+    // No `map`: of its closure's number it is not known that it is at least 1, so the proof does not close.
     for number in 1..=64 {
         all.push(Sample {
             held: example(number, 9500),

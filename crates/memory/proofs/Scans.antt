@@ -1,11 +1,14 @@
 -- The records of a memory, one by one
-use Rattle.std.proofs.Common.{◌≡◌, ℕ, zero, suc, ◌+◌, ◌-◌, ◌<◌, ◌≤◌, Bool, true, false, cond, ◌&&◌, ltb, List, [], ◌∷◌, length, refl, ap, ◌∙◌, arith, Option, None, Some}
-use Rattle.std.specs.Option.{option_or}
+use Rattle.std.proofs.Common.{◌≡◌, ℕ, zero, suc, ◌+◌, ◌-◌, ◌<◌, ◌≤◌, Bool, true, false, cond, not, ◌&&◌, ltb, List, [], ◌∷◌, length, MatchOption, subst, sym, refl, ap, ◌∙◌, arith, Option, None, Some}
+use Rattle.std.specs.Bool.{then_some}
+use Rattle.std.specs.Option.{option_map, option_or}
 use Rattle.rules.specs.Lists.{when_some, same, from}
 use Rattle.rules.specs.Records.{Record, lawful}
 use Rattle.rules.specs.Rows.{packing, unpacked, read_row}
 use Rattle.rules.specs.Memory.{Rows, row_at, intact_in, largest, newest}
-use Rattle.memory.specs.Entries.{row_in, entry_read, entry_in, is_older, better_of}
+use Rattle.memory.specs.declared.entry.Entry.{Entry}
+use Rattle.memory.specs.Entries.{row_in, entry_of, entry_read, entry_in, is_older, better_of}
+use Rattle.memory.proofs.Judged.{no_row_no_entry}
 
 -- a count with one number less
 pub from_next : (a n m : ℕ) → n ≡ suc m → from a n ≡ a ∷ from (a + 1) m
@@ -81,23 +84,44 @@ newer_wins i row (Some b) e = by (lawful (unpacked row) && same (packing (unpack
     by true = ap (λ t. cond t (Some b) (Some (i, unpacked row))) e
     by false = refl
 
+-- what an option leads to that is known
+at_none : {A : Type 0} (o : Option A) (P : Type 0) (Q : A → Type 0) → o ≡ None → MatchOption o P Q → P
+at_none None P Q e m = m
+at_none (Some x) P Q e m = cc
+
+at_some : {A : Type 0} (o : Option A) (x : A) (P : Type 0) (Q : A → Type 0) → o ≡ Some x → MatchOption o P Q → Q x
+at_some None x P Q e m = cc
+at_some (Some y) x P Q e m = let same : y ≡ x = cc in subst Q same m
+
+-- the best of a row and those behind it, by what is told of the row's bytes, of those that are kept and of the record that is read in them
+pub better_told :
+    (rows : Rows) (i : ℕ) (best : Option (ℕ × Record)) (o kept : Option (List ℕ)) (read : Option Entry) (P : List ℕ → Bool → Type 0) (Q : List ℕ → Type 0) → o ≡ row_in rows i
+    → MatchOption o (kept ≡ None) (λ row. (b : Bool) × P row b × (kept ≡ then_some b row)) → ((row : List ℕ) (b : Bool) → P row b → b ≡ not (is_older row best))
+    → MatchOption kept (read ≡ None) Q → ((row : List ℕ) → Q row → option_map entry_of read ≡ entry_read i row)
+    → option_or (option_map entry_of read) best ≡ better_of (entry_in rows i) best
+better_told rows i best None kept read P Q e h k m r =
+    ap (λ o. option_or (option_map entry_of o) best) (at_none kept (read ≡ None) Q h m) ∙ ap (λ o. better_of o best) (no_row_no_entry rows i e)
+better_told rows i best (Some row) kept read P Q e h k m r = by (is_older row best) refl ∙ ap (λ bytes. better_of (entry_read i bytes) best) (row_is rows i row e)
+  where
+    kept_by : (t : Bool) → is_older row best ≡ t → kept ≡ then_some (not t) row
+    kept_by t is = h.2 ∙ ap (λ b. then_some b row) (k row h.0 h.1 ∙ ap not is)
+
+    by : (t : Bool) → is_older row best ≡ t → option_or (option_map entry_of read) best ≡ better_of (entry_read i row) best
+    by true is = ap (λ o. option_or (option_map entry_of o) best) (at_none kept (read ≡ None) Q (kept_by true is) m) ∙ older_stays i row best (sym is)
+    by false is = ap (λ o. option_or o best) (r row (at_some kept row (read ≡ None) Q (kept_by false is) m)) ∙ newer_wins i row best (sym is)
+
 module _ (rows : Rows) where
-  -- the best of the last so many rows
-  abbrev pub best_behind : (behind : ℕ) → Option (ℕ × Record)
-  best_behind behind = largest (intact_in rows (from (length rows - behind) behind))
+  -- the best of the rows from one on
+  abbrev pub best_from : ℕ → Option (ℕ × Record)
+  best_from row = largest (intact_in rows (from row (length rows - row)))
 
-  pub behind_none : None ≡ best_behind 0
+  pub from_end : (row : ℕ) → length rows ≤ row → None ≡ best_from row
   unfolding largest intact_in
-  behind_none = refl
+  from_end row past = sym (ap (λ is. largest (intact_in rows is)) (from_none row (length rows) past))
 
-  pub behind_more : (behind : ℕ) → behind < length rows → best_behind (behind + 1) ≡ better_of (entry_in rows (length rows - 1 - behind)) (best_behind behind)
-  behind_more behind inside =
-      let one_before : length rows - (behind + 1) ≡ length rows - 1 - behind = omega arith in
-      let one_on : length rows - (behind + 1) + 1 ≡ length rows - behind = omega arith in
-      ap (λ is. largest (intact_in rows is)) (from_next (length rows - (behind + 1)) (behind + 1) behind (omega arith) ∙ ap (λ a. (length rows - (behind + 1)) ∷ from a behind) one_on)
-      ∙ scan_more rows (length rows - (behind + 1)) (from (length rows - behind) behind)
-      ∙ ap (λ a. better_of (entry_in rows a) (best_behind behind)) one_before
+  pub from_before : (row : ℕ) → row < length rows → best_from row ≡ better_of (entry_in rows row) (best_from (row + 1))
+  from_before row inside = ap (λ is. largest (intact_in rows is)) (from_more row (length rows) inside) ∙ scan_more rows row (from (row + 1) (length rows - (row + 1)))
 
-  pub behind_all : (behind : ℕ) → behind ≡ length rows → best_behind behind ≡ newest rows
+  pub from_start : best_from 0 ≡ newest rows
   unfolding newest
-  behind_all behind e = let none_before : length rows - behind ≡ 0 = omega arith in ap (λ a. largest (intact_in rows (from a behind))) none_before ∙ ap (λ n. largest (intact_in rows (from 0 n))) e
+  from_start = let all : length rows - 0 ≡ length rows = omega arith in ap (λ n. largest (intact_in rows (from 0 n))) all

@@ -68,14 +68,15 @@ fn is_older(bytes: &[u8; 32], best: Option<Entry>) -> bool
 fn better<M: Medium>(m: &M, row: usize, best: Option<Entry>) -> Option<Entry>
     ensures { option_map entry_of result ≡ better_of (entry_in (M.rows m.now) row) (option_map entry_of best) }
 {
-    let Some(bytes) = bytes_of(m, row) else {
-        return best;
-    };
     // an older row need not be judged
-    if is_older(&bytes, best) {
-        return best;
-    }
-    entry(row, &bytes).or(best)
+    bytes_of(m, row)
+        .filter(|bytes| !is_older(bytes, best))
+        .and_then(
+            |bytes| -> Option<Entry>
+                ensures { option_map entry_of result ≡ entry_read row bytes }
+            { entry(row, &bytes) },
+        )
+        .or(best)
 }
 
 /// The newest record: the intact one with the largest number, in the lowest row among equals.
@@ -83,10 +84,9 @@ pub fn newest<M: Medium>(m: &M) -> Option<Entry>
     ensures { option_map entry_of result ≡ newest_of (M.rows m.now) }
 {
     // an indexed loop over the rows, by a rule of the project: from the last on, since most rows are then older than the best so far
-    let count = m.size() * 16;
     let mut best = None;
-    for behind in 0..count {
-        best = better(m, count - 1 - behind, best);
+    for row in (0..m.size() * 16).rev() {
+        best = better(m, row, best);
     }
     best
 }

@@ -38,7 +38,7 @@ pub(crate) struct Fields {
 }
 
 // Field by field, not in a loop over the table of widths: the loop took twice the instructions.
-// No `From`: each way asks for or tells more than `From` can say, and only a lawful record has fields.
+// No `From`: `of` asks for a lawful record, `words` for fields that fit, and `read` tells that they do, which `From` cannot say.
 impl Fields {
     /// The fields in the words of a row.
     pub(crate) fn read(words: [u64; 4]) -> Fields

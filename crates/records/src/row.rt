@@ -80,7 +80,7 @@ pub fn judge(row: &[u8; 32]) -> Verdict
 pub fn number_in(row: &[u8; 32]) -> u32
     ensures { result ≡ (unpacked row.now).number }
 {
-    // behind the kind, and before 24 bits of the first word
+    // behind the kind and before 24 more bits of the first word; no plainer by a `Reader`, which would take the kind off only to drop it
     let [first, _, _, _] = words_of(row);
     low_bits(first >> 24, 32) as u32
 }

@@ -1,22 +1,21 @@
-use Rattle.std.proofs.Common.{◌≡◌, ℕ, ◌-◌, ◌*◌, ◌<◌, length, sym, ap, ◌∙◌, arith}
-use Rattle.std.specs.Prelude.{option_map}
-use Rattle.memory.specs.Entries.{entry_of, entry_in, better_of}
-use Rattle.memory.proofs.Scans.{behind_none, behind_more, behind_all}
+use Rattle.std.proofs.Common.{◌≡◌, ℕ, ◌+◌, ◌-◌, sym, ap, ◌∙◌, arith}
+use Rattle.memory.specs.Entries.{entry_in, better_of}
+use Rattle.memory.proofs.Scans.{best_from, from_end, from_before, from_start}
 use Rattle.memory.proofs.reading.newest.Goals as goal
 
-pub loop-behind-init : goal.loop-behind-init
-loop-behind-init g c = behind_none (g.M.Medium.rows c.args.m.now)
+pub loop-row-init : goal.loop-row-init
+loop-row-init g c = from_end (g.M.Medium.rows c.args.m.now) _ (omega (arith, c.size-row.ensures))
 
-pub loop-behind-preserved : goal.loop-behind-preserved
-loop-behind-preserved g c =
+pub loop-row-preserved : goal.loop-row-preserved
+loop-row-preserved g c =
     let rows = g.M.Medium.rows c.args.m.now in
-    let behind : ℕ = c.loop-behind.behind in
-    let count : c.size-count.result * 16 ≡ length rows = omega (arith, c.size-count.ensures) in
-    let inside : behind < length rows = omega (arith, c.size-count.ensures) in
-    c.better-best.ensures ∙ ap (λ n. better_of (entry_in rows (n - 1 - behind)) (option_map entry_of c.loop-behind.best)) count
-    ∙ ap (better_of (entry_in rows (length rows - 1 - behind))) c.loop-behind.invariant ∙ sym (behind_more rows behind inside)
+    let row : ℕ = c.loop-row.row - 1 in
+    let next : row + 1 ≡ c.loop-row.row = omega (arith, c.loop-row-test.true) in
+    c.better-best.ensures ∙ ap (better_of (entry_in rows row)) (c.loop-row.invariant ∙ ap (best_from rows) (sym next))
+    ∙ sym (from_before rows row (omega (arith, c.size-row.ensures, c.loop-row.auto.row, c.loop-row-test.true)))
 
 pub returns : goal.returns
 returns g c =
     let rows = g.M.Medium.rows c.args.m.now in
-    c.loop-behind.invariant ∙ behind_all rows c.loop-behind.behind (omega (arith, c.size-count.ensures))
+    let done : c.loop-row.row ≡ 0 = omega (arith, c.loop-row-test.false) in
+    c.loop-row.invariant ∙ ap (best_from rows) done ∙ from_start rows
