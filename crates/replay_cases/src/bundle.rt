@@ -1,0 +1,50 @@
+//! Where the cases of a bundle begin, and their names.
+
+ghost use Rattle.std.specs.Prelude.{◌≡◌, ◌≤◌, ◌<◌, ◌+◌, ◌-◌, ◌==◌, true, length, take, drop, position};
+ghost use Rattle.std.specs.Option.{unwrap_or};
+ghost use Rattle.replay_cases.specs.Bundles.{begins};
+
+/// Whether three bytes end a line and begin a case.
+fn begins(start: &[u8]) -> bool
+    ensures { result ≡ begins start.now }
+{
+    matches!(start, [b'\n', b'=', b' '])
+}
+
+/// Where the next line that begins a case begins, behind the line that the bytes begin in; where they end, if none does.
+pub(crate) fn next_case(bytes: &[u8]) -> usize
+    ensures inside { result ≤ length bytes.now }
+    ensures begins { result < length bytes.now → begins (take 3 (drop (result - 1) bytes.now)) ≡ true }
+{
+    bytes
+        .windows(3)
+        .position(begins)
+        .map_or(bytes.len(), |feed| feed + 1)
+}
+
+/// Where the first case begins; where the bytes end, if there is none.
+pub(crate) fn first_case(bytes: &[u8]) -> usize
+    ensures { result ≤ length bytes.now }
+{
+    if bytes.starts_with(b"= ") {
+        0
+    } else {
+        next_case(bytes)
+    }
+}
+
+/// Where the line feed stands that ends the name of a case, if one does.
+fn name_end(case: &[u8]) -> Option<usize>
+    ensures { result ≡ position (λ b. b == 10) case.now }
+{
+    case.iter().position(|&byte| byte == b'\n')
+}
+
+/// The name of a case, and its trace behind the line feed that ends the name.
+pub(crate) fn split_name(case: &[u8]) -> (&[u8], &[u8])
+    ensures name { result.0.now ≡ take (unwrap_or (position (λ b. b == 10) case.now) (length case.now)) case.now }
+    ensures trace { result.1.now ≡ drop (unwrap_or (position (λ b. b == 10) case.now) (length case.now) + 1) case.now }
+{
+    let size = name_end(case).unwrap_or(case.len());
+    (&case[..size], case.get(size + 1..).unwrap_or(&[]))
+}
