@@ -35,7 +35,7 @@ struct Appends;
 
 impl Calls for Appends {
     /// Packs the example of a day under the next number, and appends it.
-    #[tactic(auto, using(crate::proofs::Numbers::next_number_from_1))]
+    #[tactic(auto, using(rules::proofs::MemoryLaws::next_number_from_one))]
     fn store<M: Medium>(memory: &mut M, day: u16) -> Result<(), MemoryFault> {
         let number = u32::try_from(next_number(&*memory)).map_err(|_| MemoryFault::NoNumber)?;
         let packed = example(number, day).pack().unwrap();
