@@ -1,6 +1,6 @@
 //! Where the cases of a bundle begin, and their names.
 
-ghost use Rattle.std.specs.Prelude.{ℕ, ◌≡◌, ◌≤◌, ◌<◌, ◌+◌, ◌-◌, ◌==◌, true, false, IfSome, MatchOption, length, take, drop, position};
+ghost use Rattle.std.specs.Prelude.{ℕ, ◌≡◌, ◌≤◌, ◌<◌, ◌+◌, ◌-◌, ◌==◌, true, false, IfSome, MatchOption, [], ◌∷◌, length, take, drop, position};
 ghost use Rattle.std.specs.Option.{unwrap_or};
 ghost use Rattle.replay_cases.specs.Bundles.{begins, begins_at};
 
@@ -32,6 +32,8 @@ pub(crate) fn next_case(bytes: &[u8]) -> usize
 pub(crate) fn first_case(bytes: &[u8]) -> usize
     ensures inside { result ≤ length bytes.now }
     ensures begins { 0 < result → result < length bytes.now → begins_at (result - 1) bytes.now ≡ true }
+    ensures start { take 2 bytes.now ≡ 61 ∷ 32 ∷ [] → result ≡ 0 }
+    ensures first { (k : ℕ) → k + 1 < result → k + 3 ≤ length bytes.now → begins_at k bytes.now ≡ false }
 {
     if bytes.starts_with(b"= ") {
         0
