@@ -33,6 +33,7 @@ pub(crate) fn first_case(bytes: &[u8]) -> usize
     ensures inside { result ≤ length bytes.now }
     ensures begins { 0 < result → result < length bytes.now → begins_at (result - 1) bytes.now ≡ true }
     ensures start { take 2 bytes.now ≡ 61 ∷ 32 ∷ [] → result ≡ 0 }
+    ensures only { result ≡ 0 → 0 < length bytes.now → take 2 bytes.now ≡ 61 ∷ 32 ∷ [] }
     ensures first { (k : ℕ) → k + 1 < result → k + 3 ≤ length bytes.now → begins_at k bytes.now ≡ false }
 {
     if bytes.starts_with(b"= ") {
