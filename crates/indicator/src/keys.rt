@@ -2,10 +2,10 @@
 
 ghost use Rattle.std.specs.Prelude.{◌≡◌, ◌≤◌, IfOk, unsigned_abs, option_map};
 ghost use Rattle.rules.specs.Loads.{mean};
-ghost use Rattle.rules.specs.Terminal.{sample as a_sample, key as a_key, set_zero, clear_tare, preset_tare, is_empty as is_empty_by_rule, fresh, with_state, voided};
+ghost use Rattle.rules.specs.Terminal.{sample as a_sample, key as a_key, set_zero, clear_tare, preset_tare, is_empty as is_empty_by_rule, fresh, with_state, voided, after_store};
 ghost use Rattle.records.specs.WeighingsOf.{weighing_of};
 ghost use Rattle.loads.specs.SettingsOf.{settings_of};
-ghost use Rattle.indicator.specs.StatesOf.{pending_in, after_store};
+ghost use Rattle.indicator.specs.StatesOf.{pending_in};
 ghost use Rattle.indicator.specs.Answers.{answer, ActsOn, first_of, idle_refusals, untared_refusals, settled_refusals, tare_refusals};
 
 use crate::body::Indicator;

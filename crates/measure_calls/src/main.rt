@@ -66,6 +66,7 @@ fn store<M: Medium>(terminal: &mut Terminal<M>, claim: Claim) -> Result<u64, Sto
 }
 
 /// Makes the call; for any but a store the weighing that is pending is voided first.
+/// A release is for the day after that of the records, so it erases all pages but the newest record's.
 fn make<M: Medium>(
     terminal: &mut Terminal<M>,
     claim: Claim,
@@ -86,7 +87,7 @@ fn make<M: Medium>(
         Call::Release => {
             terminal.void(claim);
             terminal
-                .release(EARLIER, 9500, None)
+                .release(EARLIER + 1, 9500, None)
                 .map(|pages| pages as u64)
         }
         Call::Nothing => {

@@ -18,3 +18,8 @@ fault_place (NotBlank place) = place
 abbrev pub outcome : {A : Type 0} → Result A MediumFault → Outcome
 outcome (Ok _) = accepted
 outcome (Err e) = refused (fault_number e) (fault_place e)
+
+-- the outcome of a check of lent bytes, which a refusal hands back beside its fault
+abbrev pub check_outcome : {A B : Type 0} → Result A (B × MediumFault) → Outcome
+check_outcome (Ok _) = accepted
+check_outcome (Err (_, e)) = refused (fault_number e) (fault_place e)

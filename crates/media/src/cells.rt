@@ -1,7 +1,7 @@
-ghost use Rattle.std.specs.Prelude.{◌≡◌, ℕ, List, ◌*◌, ◌/◌, ◌%◌, ◌^◌, ◌<◌, ◌≤◌, length, IfOk, OnOk, OnErr, if◌then◌else◌};
+ghost use Rattle.std.specs.Prelude.{◌≡◌, ℕ, List, ◌*◌, ◌/◌, ◌%◌, ◌^◌, ◌<◌, ◌≤◌, length, IfOk, IfErr, OnOk, OnErr, if◌then◌else◌};
 ghost use Rattle.rules.specs.Rows.{blank_row};
 ghost use Rattle.rules.specs.Media.{accepted, refused, is_medium_size, row_in, rows_in, reads, programs, erases};
-ghost use Rattle.media.specs.Outcomes.{outcome};
+ghost use Rattle.media.specs.Outcomes.{outcome, check_outcome};
 
 use crate::bytes::{check_bytes, read_row};
 use crate::medium::MediumFault;
@@ -21,15 +21,17 @@ pub struct Cells<'a> {
 impl<'a> Cells<'a> {
     ghost use Rattle.media.specs.Cells.{bytes_of, lender_of};
 
-    /// Checks lent bytes as `check_bytes` does, and keeps them as they are.
-    pub fn check(bytes: &'a mut [u8]) -> Result<Cells<'a>, MediumFault>
-        ensures says { outcome result ≡ (if is_medium_size (length bytes.old) then accepted else refused 1 0) }
+    /// Checks lent bytes as `check_bytes` does, and keeps them as they are; a refusal hands them back.
+    pub fn check(bytes: &'a mut [u8]) -> Result<Cells<'a>, (&'a mut [u8], MediumFault)>
+        ensures says { check_outcome result ≡ (if is_medium_size (length bytes.old) then accepted else refused 1 0) }
         ensures bytes { IfOk result (λ cells. bytes_of cells ≡ bytes.old) }
         ensures lender { IfOk result (λ cells. lender_of cells ≡ bytes.entry.ghost_name) }
+        ensures handed_back { IfErr result (λ refused. (refused.0.now ≡ bytes.old) × (refused.0.ghost_name ≡ bytes.entry.ghost_name)) }
     {
-        // no clause for refused bytes, which stay as they are: none is proved where a lent slice goes into the result itself
-        check_bytes(&*bytes)?;
-        Ok(Cells { bytes, writes: 0 })
+        match check_bytes(&*bytes) {
+            Ok(()) => Ok(Cells { bytes, writes: 0 }),
+            Err(fault) => Err((bytes, fault)),
+        }
     }
 
     /// Gives the bytes back, as they are now.

@@ -51,7 +51,9 @@ impl Run<'_> {
     {
         let settings = beginning.settings;
         let mut cells = [0xFF; 4096];
-        let checked = Cells::check(&mut cells).unwrap();
+        let Ok(checked) = Cells::check(&mut cells) else {
+            unreachable!();
+        };
         // A match: each kind of medium is a type of its own.
         match beginning.kind {
             MediumKind::Flash => self.play_over(Flash::over(checked), settings),

@@ -2,16 +2,13 @@
 use Rattle.std.specs.Prelude.{◌≡◌, ℕ, List, [], ◌∷◌, ◌++◌, map, replicate, ℤ, pos, negsuc, codes, Option, None, Some}
 use Rattle.rules.specs.Loads.{rounded, sum, mean, gross_of, price_of}
 use Rattle.rules.specs.Records.{Record, typed_mark}
-use Rattle.rules.specs.Rows.{packing, blank_row}
+use Rattle.rules.specs.Rows.{packing}
 use Rattle.rules.specs.Settings.{Settings}
 use Rattle.rules.specs.Terminal.{no_tare, ready, Indicator, World, set_zero, take_tare, clear_tare, preset_tare, Entries, Call, opening, sample, key, weigh, store, print, release, Answer, done, gives, prints, refuses, with_zero, with_indicator, acts}
+use Rattle.rules.specs.Replay.{eight_pages}
 use Rattle.rules.specs.Trace.{flash, sectors, Command, to_begin, to_sample, to_press, to_weigh, to_reopen, to_release, to_print, lines, command_of}
 
 -- ---- A terminal with a load on it
-
--- eight blank pages
-abbrev pub blank_world : World
-blank_world = record { rows = replicate 128 blank_row; writes = 0; on = None }
 
 -- class 3, an interval of 20 kg, at most 3,000 intervals
 abbrev pub some_settings : Settings
@@ -22,7 +19,7 @@ abbrev pub steady : (load : ℤ) → Indicator
 steady load = record { settings = some_settings; zero_at = pos 0; tare = no_tare; window = replicate 8 load; state = ready }
 
 abbrev pub steady_world : (load : ℤ) → World
-steady_world load = with_indicator blank_world (steady load)
+steady_world load = with_indicator eight_pages (steady load)
 
 abbrev pub some_entries : Entries
 some_entries = record { day = 9500; minute = 615; mark = codes "KL4420"; unit_price = 18555 }
@@ -34,8 +31,7 @@ abbrev pub answers : World → List Call → List Answer
 answers w [] = []
 answers w (c ∷ cs) = let r : Answer × World = acts c w in r.0 ∷ answers r.1 cs
 
--- the platform is empty, a lorry comes on, it is weighed with a preset tare and stored, and its line is printed;
--- then it is to be weighed a second time
+-- an empty platform, a lorry that is weighed with a preset tare, stored and printed, and then is to be weighed a second time
 abbrev pub a_weighing : List Call
 a_weighing =
     opening some_settings ∷ sample (pos 0)
@@ -78,9 +74,9 @@ pub record WorkedCases : Type 0 where
   pub mean_then_gross : (window : List ℤ) → sum window ≡ pos 99476 → (mean window ≡ pos 12435) × (gross_of window (pos 0) ≡ pos 1244)
   -- and there are eight such samples
   pub eight_such_samples : sum (replicate 4 (pos 12434) ++ replicate 4 (pos 12435)) ≡ pos 99476
-  -- a mean of 600 sets the zero, -601 is refused: of 3,000 intervals a fifth is 600
-  pub zero_within_a_fifth :
-      (acts (key set_zero) (steady_world (pos 600)) ≡ (done, with_indicator blank_world (with_zero (steady (pos 600)) (pos 600))))
+  -- n is 3,000: a mean of 600 sets the zero, since 5 times 600 is 3,000; -601 is refused
+  pub zero_range :
+      (acts (key set_zero) (steady_world (pos 600)) ≡ (done, with_indicator eight_pages (with_zero (steady (pos 600)) (pos 600))))
       × (acts (key set_zero) (steady_world (negsuc 600)) ≡ (refuses 11 0, steady_world (negsuc 600)))
   -- a gross weight of 20 is weighed, 19 is under the smallest load of class 3
   pub smallest_load :
@@ -97,7 +93,7 @@ pub record WorkedCases : Type 0 where
       ((acts (release (record { day = 9500; today = 9590; keep = None })) (steady_world (pos 0))).0 ≡ gives 0)
       × ((acts (release (record { day = 9500; today = 9589; keep = None })) (steady_world (pos 0))).0 ≡ refuses 31 0)
   -- a weighing is stored under number 1 and printed; the lorry is not weighed again before the platform was empty
-  pub weighed_once : answers blank_world a_weighing ≡ replicate 12 done ++ (gives 1 ∷ prints a_line ∷ refuses 16 0 ∷ [])
+  pub weighed_once : answers eight_pages a_weighing ≡ replicate 12 done ++ (gives 1 ∷ prints a_line ∷ refuses 16 0 ∷ [])
 
 -- ---- Lines of a trace
 

@@ -3,9 +3,9 @@ use Rattle.std.specs.Prelude.{◌≡◌, ℕ, zero, suc, Bool, true, false, cond
 use Rattle.rules.specs.Lists.{when_some}
 use Rattle.rules.specs.Loads.{mean, rounded, gross_of}
 use Rattle.rules.specs.Settings.{Settings, min_of}
-use Rattle.rules.specs.Terminal.{Tare, no_tare, weighed, preset, World, Key, set_zero, take_tare, clear_tare, preset_tare, Entries, Releasing, Call, opening, sample, key, weigh, store, void, print, verify, release, Answer, done, gives, prints, refuses}
+use Rattle.rules.specs.Terminal.{Tare, no_tare, weighed, preset, World, Key, set_zero, take_tare, clear_tare, preset_tare, Entries, Releasing, Call, opening, sample, key, weigh, release, Answer, refuses}
 
--- a call and its answer, or a cut
+-- a call and its answer, or a cut: inside a store, inside a release, or elsewhere, where no row changes
 pub data Event : Type 0 where
   answered : Call → Answer → Event
   cut_in_store : Event
@@ -25,65 +25,28 @@ History = List Moment
 
 abbrev pub as_opening : Call → Option Settings
 as_opening (opening s) = Some s
-as_opening (sample x) = None
-as_opening (key k) = None
-as_opening (weigh e) = None
-as_opening store = None
-as_opening void = None
-as_opening (print n room) = None
-as_opening (verify line) = None
-as_opening (release r) = None
+as_opening c = None
 
 abbrev pub as_sample : Call → Option ℤ
-as_sample (opening s) = None
 as_sample (sample x) = Some x
-as_sample (key k) = None
-as_sample (weigh e) = None
-as_sample store = None
-as_sample void = None
-as_sample (print n room) = None
-as_sample (verify line) = None
-as_sample (release r) = None
+as_sample c = None
 
 abbrev pub as_key : Call → Option Key
-as_key (opening s) = None
-as_key (sample x) = None
 as_key (key k) = Some k
-as_key (weigh e) = None
-as_key store = None
-as_key void = None
-as_key (print n room) = None
-as_key (verify line) = None
-as_key (release r) = None
+as_key c = None
 
 abbrev pub as_weigh : Call → Option Entries
-as_weigh (opening s) = None
-as_weigh (sample x) = None
-as_weigh (key k) = None
 as_weigh (weigh e) = Some e
-as_weigh store = None
-as_weigh void = None
-as_weigh (print n room) = None
-as_weigh (verify line) = None
-as_weigh (release r) = None
+as_weigh c = None
 
 abbrev pub as_release : Call → Option Releasing
-as_release (opening s) = None
-as_release (sample x) = None
-as_release (key k) = None
-as_release (weigh e) = None
-as_release store = None
-as_release void = None
-as_release (print n room) = None
-as_release (verify line) = None
 as_release (release r) = Some r
+as_release c = None
 
 -- whether an answer is no refusal
 abbrev pub is_accepted : Answer → Bool
-is_accepted done = true
-is_accepted (gives n) = true
-is_accepted (prints line) = true
 is_accepted (refuses n place) = false
+is_accepted a = true
 
 -- of a moment, the argument of a call of that kind, whatever its answer
 abbrev pub called : {A : Type 0} → (Call → Option A) → Moment → Option A
@@ -91,9 +54,7 @@ called {A} kind m = of m.event
   where
     of : Event → Option A
     of (answered c a) = kind c
-    of cut_in_store = None
-    of (cut_in_release r) = None
-    of switched_off = None
+    of e = None
 
 -- of a moment, the argument of an accepted call of that kind
 abbrev pub accepted : {A : Type 0} → (Call → Option A) → Moment → Option A
@@ -101,19 +62,16 @@ accepted {A} kind m = of m.event
   where
     of : Event → Option A
     of (answered c a) = cond (is_accepted a) (kind c) None
-    of cut_in_store = None
-    of (cut_in_release r) = None
-    of switched_off = None
+    of e = None
 
--- the release that a call made or was cut in
+-- the release of an accepted call, or of one that power failed in
 abbrev pub released : Moment → Option Releasing
 released m = of m.event
   where
     of : Event → Option Releasing
     of (answered c a) = cond (is_accepted a) (as_release c) None
-    of cut_in_store = None
     of (cut_in_release r) = Some r
-    of switched_off = None
+    of e = None
 
 -- ---- Settings, samples, zero and tare as of the end of a list
 

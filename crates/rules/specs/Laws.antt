@@ -121,8 +121,7 @@ pub record IsFree (rows : Rows) (page row : ℕ) : Type 0 where
   pub blank : (j : ℕ) → row ≤ j → page_of j ≡ page → row_at rows j ≡ blank_row
   pub first : (k : ℕ) → k + 1 ≡ row → page_of k ≡ page → row_at rows k ≢ blank_row
 
--- the next row: the first free row of the newest record's page, or where that has none, or there is no newest, that of the first page of the round,
--- provided that no record is found in that page
+-- the next row: the first free row of the newest record's page; where that has none, or there is no newest, that of the first page of the round, if no record is found there
 pub data IsNext (rows : Rows) (row : ℕ) : Type 0 where
   behind_newest : (i : ℕ) (r : Record) → newest rows ≡ Some (i, r) → IsFree rows (page_of i) row → IsNext rows row
   in_first_page :

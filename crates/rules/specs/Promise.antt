@@ -34,7 +34,7 @@ pub record BlankMedium (rows : Rows) : Type 0 where
   pub high : pages ≤ 64
   pub blank : rows ≡ replicate (16 * pages) blank_row
 
--- a run leads to a world by a list of moments: it starts with no power, then come calls, cuts inside a store or a release, and cuts between two calls
+-- a run leads to a world by a list of moments: from a blank medium with no power, by calls, cuts inside an accepted store or release, and other cuts, which change no row
 pub data Run : History → World → Type 0 where
   start : {rows : Rows} → BlankMedium rows → Run [] (dark rows)
   call :

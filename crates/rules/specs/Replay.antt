@@ -34,16 +34,13 @@ eight_pages = dark (replicate 128 blank_row)
 -- a record that was stored is printed; one that could not be stored is voided
 abbrev pub then_printed : Answer × World → Answer × World
 then_printed (gives n, w) = acts (print n 76) w
-then_printed (done, w) = (done, w)
-then_printed (prints text, w) = (prints text, w)
 then_printed (refuses number place, w) = (refuses number place, (acts void w).1)
+then_printed (a, w) = (a, w)
 
 -- what was weighed is stored
 abbrev pub then_stored : Answer × World → Answer × World
 then_stored (done, w) = then_printed (acts store w)
-then_stored (gives n, w) = (gives n, w)
-then_stored (prints text, w) = (prints text, w)
-then_stored (refuses number place, w) = (refuses number place, w)
+then_stored (a, w) = (a, w)
 
 -- weighs, stores and prints, as far as nothing is refused
 abbrev pub weighs_out : Entries → World → Answer × World
@@ -54,28 +51,23 @@ abbrev pub begins : (line : ℕ) → Checked → List ℕ × Replay
 begins line (passed s) = ([], running s (acts (opening s) eight_pages).1)
 begins line (refused number) = (refusal_line number line, unopened)
 
--- what a terminal is asked for; a second beginning is no line of a trace
-abbrev pub does : Settings → World → Command → Answer × World
-does s w (to_begin kind class kg max) = (refuses 32 0, w)
-does s w (to_sample x) = acts (sample x) w
-does s w (to_press k) = acts (key k) w
-does s w (to_weigh e) = weighs_out e w
-does s w to_reopen = acts (opening s) w
-does s w (to_release day today) = acts (release (record { day = day; today = today; keep = None })) w
-does s w (to_print n) = acts (print n 76) w
+-- what a terminal is asked for by a line; a second beginning is refused 32, whose place is the line
+abbrev pub does : Settings → World → (line : ℕ) → Command → Answer × World
+does s w line (to_begin kind class kg max) = (refuses 32 line, w)
+does s w line (to_sample x) = acts (sample x) w
+does s w line (to_press k) = acts (key k) w
+does s w line (to_weigh e) = weighs_out e w
+does s w line to_reopen = acts (opening s) w
+does s w line (to_release day today) = acts (release (record { day = day; today = today; keep = None })) w
+does s w line (to_print n) = acts (print n 76) w
 
 -- the bytes that a line writes, and what it leaves: before a terminal is opened every line but a good beginning is refused 32
 abbrev pub plays : Replay → (line : ℕ) → Reading → List ℕ × Replay
 plays unopened line (unreadable number place) = (refusal_line number line, unopened)
 plays unopened line (asks (to_begin kind class kg max)) = begins line (checked class kg max)
-plays unopened line (asks (to_sample x)) = (refusal_line 32 line, unopened)
-plays unopened line (asks (to_press k)) = (refusal_line 32 line, unopened)
-plays unopened line (asks (to_weigh e)) = (refusal_line 32 line, unopened)
-plays unopened line (asks to_reopen) = (refusal_line 32 line, unopened)
-plays unopened line (asks (to_release day today)) = (refusal_line 32 line, unopened)
-plays unopened line (asks (to_print n)) = (refusal_line 32 line, unopened)
+plays unopened line (asks c) = (refusal_line 32 line, unopened)
 plays (running s w) line (unreadable number place) = (refusal_line number line, running s w)
-plays (running s w) line (asks c) = (reply_to line (does s w c).0, running s (does s w c).1)
+plays (running s w) line (asks c) = (reply_to line (does s w line c).0, running s (does s w line c).1)
 
 -- ---- What a trace writes
 

@@ -27,7 +27,7 @@ packing r = let body : List ℕ = digits_of 256 31 (side_by_side 0 (fields r)) i
 
 -- ---- Reading
 
--- the field of so many bits with so many bits behind it, in the number that the 31 bytes write
+-- the field that has so many bits behind it and is so many bits wide, in the number that the 31 bytes write
 abbrev pub field : (body behind width : ℕ) → ℕ
 field body behind width = (body / 2 ^ behind) % 2 ^ width
 
@@ -73,6 +73,6 @@ pub data Verdict : Type 0 where
 unfoldable pub is_checked : List ℕ → Bool
 is_checked row = slice_index row 31 == zeros (take 31 row)
 
--- he looks first whether the row is all ones, then at the check, then at the fields
+-- the judge looks first whether the row is all ones, then at the check, then at the fields
 unfoldable pub judged : List ℕ → Verdict
 judged row = cond (is_blank row) blank (cond (is_checked row) (when_some (read_row row) wrong_fields intact) wrong_check)

@@ -16,11 +16,11 @@ pub record Bounds : Type 0 where
   pub most : ℕ
   pub min : ℕ
 
--- III: 500 to 10,000 intervals, and at least 20
+-- III: n is 500 to 10,000, Min is 20
 abbrev pub class_three : Bounds
 class_three = record { least = 500; most = 10000; min = 20 }
 
--- IIII: 100 to 1,000 intervals, and at least 10
+-- IIII: n is 100 to 1,000, Min is 10
 abbrev pub class_four : Bounds
 class_four = record { least = 100; most = 1000; min = 10 }
 

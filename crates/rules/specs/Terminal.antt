@@ -7,6 +7,7 @@ use Rattle.rules.specs.Records.{Record, lawful_mark, typed_mark, unnumbered, num
 use Rattle.rules.specs.Rows.{packing}
 use Rattle.rules.specs.Tickets.{ticket}
 use Rattle.rules.specs.Memory.{Rows, newest, disorder, find, next_row, next_number, released_pages, erased}
+use Rattle.rules.specs.Media.{one_more}
 
 -- ---- State
 
@@ -68,7 +69,7 @@ pub record Releasing : Type 0 where
   pub today : ℕ
   pub keep : Option ℕ
 
--- print has a record's number and the room of the buffer that it is given
+-- the calls; a print has a record's number, and how many bytes its buffer has
 pub data Call : Type 0 where
   opening : Settings → Call
   sample : ℤ → Call
@@ -102,7 +103,7 @@ n when b = record { holds = b; number = n; place = 0 }
 abbrev pub ◌at_any◌ : ℕ → Option ℕ → Refusal
 n at_any place = record { holds = when_some place false (λ i. true); number = n; place = when_some place 0 (λ i. i) }
 
--- the result, unless one of these holds: a refusal leaves the world, or the part of it that a call acts on, as it is
+-- the result, unless one of these holds: then the first of them is the answer, and w stays as it is
 abbrev pub unless : {W : Type 0} → List Refusal → W → Answer × W → Answer × W
 unless [] w result = result
 unless (x ∷ xs) w result = cond x.holds (refuses x.number x.place, w) (unless xs w result)
@@ -111,13 +112,11 @@ unless (x ∷ xs) w result = cond x.holds (refuses x.number x.place, w) (unless 
 
 abbrev pub is_waiting : State → Bool
 is_waiting waiting = true
-is_waiting ready = false
-is_waiting (pending r) = false
+is_waiting s = false
 
 abbrev pub is_pending : State → Bool
-is_pending waiting = false
-is_pending ready = false
 is_pending (pending r) = true
+is_pending s = false
 
 abbrev pub is_tared : Tare → Bool
 is_tared t = not (tare_kind t == 0)
@@ -151,7 +150,7 @@ with_zero i zero_at = record { settings = i.settings; zero_at = zero_at; tare = 
 abbrev pub with_tare : Indicator → Tare → Indicator
 with_tare i tare = record { settings = i.settings; zero_at = i.zero_at; tare = tare; window = i.window; state = i.state }
 
--- a sound cell sends no more than 200,000 tenths either way
+-- the loads that a sample may have: at most 200,000 tenths either way
 abbrev pub in_range : ℤ → Bool
 in_range x = int_le (negsuc 199999) x && int_le x (pos 200000)
 
@@ -195,9 +194,13 @@ record_from s g t e = unnumbered s.interval (unsigned_abs g) (tare_kind t) (tare
 
 -- the state after a void
 abbrev pub voided : State → State
-voided waiting = waiting
-voided ready = ready
 voided (pending r) = ready
+voided s = s
+
+-- the state after an accepted store
+abbrev pub after_store : State → State
+after_store (pending r) = waiting
+after_store s = s
 
 -- ---- The store
 
@@ -216,11 +219,10 @@ with_record rows r = when_some (next_row rows) rows (λ i. slice_set rows i (pac
 
 -- what a store answers and leaves, by the state of the indicator
 abbrev pub stored : World → Indicator → State → Answer × World
-stored w i waiting = (refuses 20 0, w)
-stored w i ready = (refuses 20 0, w)
 stored w i (pending r) =
     unless (store_refusals w.rows r) w
-    (gives (next_number w.rows), record { rows = with_record w.rows r; writes = (w.writes + 1) % 2 ^ 32; on = Some (with_state i waiting) })
+    (gives (next_number w.rows), record { rows = with_record w.rows r; writes = one_more w.writes; on = Some (with_state i waiting) })
+stored w i s = (refuses 20 0, w)
 
 -- whether no intact record has that number
 abbrev pub is_missing : Rows → ℕ → Bool
@@ -236,9 +238,7 @@ print_refusals rows n room = 25 when nat_lt room 76 ∷ 21 at_any disorder rows 
 -- what a buffer holds after a print: the line, and the bytes behind it as they were; any other answer leaves all as it was
 abbrev pub buffer_after : Answer → (before : List ℕ) → List ℕ
 buffer_after (prints line) before = line ++ drop 76 before
-buffer_after done before = before
-buffer_after (gives n) before = before
-buffer_after (refuses n place) before = before
+buffer_after a before = before
 
 abbrev pub all_digits : List ℕ → Bool
 all_digits [] = true

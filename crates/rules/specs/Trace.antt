@@ -69,7 +69,7 @@ a_kind word = when_some (a_byte word) None (λ c. cond (c == 70) (Some flash) (c
 
 -- ---- What a line asks for
 
--- to begin has the kind of the medium, and what the settings are checked from
+-- what a line may ask for; to begin has the kind of the medium, and the plain numbers from which the settings are checked
 pub data Command : Type 0 where
   to_begin : Kind → (class kg max : ℕ) → Command
   to_sample : ℤ → Command
@@ -84,7 +84,7 @@ abbrev pub first_as : {A : Type 0} → (List ℕ → Option A) → List (List �
 first_as it [] = None
 first_as it (w ∷ ws) = when_some (it w) None (λ a. Some (a, ws))
 
--- and what comes of both
+-- what f makes of that word and of the words behind it; none where there is no such word
 abbrev pub next : {A B : Type 0} → (List ℕ → Option A) → List (List ℕ) → (A → List (List ℕ) → Option B) → Option B
 next it ws f = when_some (first_as it ws) None (λ p. f p.0 p.1)
 
@@ -138,7 +138,7 @@ pub data Reading : Type 0 where
 abbrev pub reading_of : (number : ℕ) (line : List ℕ) → Reading
 reading_of n line = when_some (command_of line) (refused 32 n) asks
 
--- after so many lines, with these left: the number of the next line and what is read of it, if there is one, and how many lines were read then and which are left
+-- the number of the next of these lines and what is read of it, if there is one; then how many lines were read, and those that are left
 abbrev pub next_line : (before : ℕ) → List (List ℕ) → Option (ℕ × Reading) × ℕ × List (List ℕ)
 next_line before [] = (None, before, [])
 next_line before (l ∷ ls) = (Some (before + 1, reading_of (before + 1) l), before + 1, ls)

@@ -96,7 +96,7 @@ pub fn numbers_differ()
     ensures { NumbersDiffer }
 {}
 
-/// The next row is the first free row of the newest record's page, else of the first page of the round.
+/// The next row is the first free row of the newest record's page, else of the first page of the round, if that page holds no record.
 pub fn next_row_is_next()
     ensures { NextRowIsNext }
 {}

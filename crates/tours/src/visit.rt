@@ -82,19 +82,25 @@ pub trait Tour {
 pub fn tour_both<T: Tour>(rt: &HostRuntime, content: [u8; 1024]) -> io::Result<()> {
     let mut one = content;
     let mut other = content;
+    let Ok(cells) = Cells::check(&mut one) else {
+        unreachable!();
+    };
     T::visit(Visit {
         lines: Lines {
             rt,
             kind: MediumKind::Flash,
         },
-        medium: Flash::over(Cells::check(&mut one).unwrap()),
+        medium: Flash::over(cells),
     })?;
+    let Ok(cells) = Cells::check(&mut other) else {
+        unreachable!();
+    };
     T::visit(Visit {
         lines: Lines {
             rt,
             kind: MediumKind::Sectors,
         },
-        medium: Sectors::over(Cells::check(&mut other).unwrap()),
+        medium: Sectors::over(cells),
     })?;
     println!(rt; "the bytes are equal: {}", one == other)
 }
