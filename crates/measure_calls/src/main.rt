@@ -118,7 +118,9 @@ fn run<M: Medium + Drop>(mut medium: M, call: Call) -> anyhow::Result<u64> {
 
 /// The call over so many blank pages of a kind.
 fn measure(cells: &mut [u8], kind: MediumKind, call: Call) -> anyhow::Result<u64> {
-    let cells = Cells::check(cells).ok().context("2 to 64 pages")?;
+    let Ok(cells) = Cells::check(cells) else {
+        return Err(anyhow!("2 to 64 pages"));
+    };
     // A match: each kind of medium is a type of its own.
     match kind {
         MediumKind::Flash => run(Flash::over(cells), call),
