@@ -1,5 +1,5 @@
 -- The rows of a page, one by one
-use Rattle.std.proofs.Common.{◌≡◌, ℕ, zero, suc, ◌+◌, ◌-◌, ◌*◌, Bool, true, false, cond, not, ◌&&◌, ◌||◌, eqb, ltb, List, [], ◌∷◌, ◌++◌, length, MatchOption, sym, refl, ap, ◌∙◌, ap₂, subst, arith, Option, None, Some}
+use Rattle.std.proofs.Common.{◌≡◌, ℕ, zero, suc, ◌+◌, ◌-◌, ◌*◌, Bool, true, false, cond, not, ◌&&◌, ◌||◌, eqb, ltb, nat_le, List, [], ◌∷◌, ◌++◌, length, MatchOption, sym, refl, ap, ◌∙◌, ap₂, subst, arith, Option, None, Some}
 use Rattle.std.proofs.lemmas.Bool.{ne_eqb}
 use Rattle.std.specs.Bool.{then_some}
 use Rattle.std.specs.List.{list_all, list_any, find, range_with_len}
@@ -12,13 +12,12 @@ use Rattle.rules.specs.Lists.{from, when_some}
 use Rattle.rules.specs.Records.{Record}
 use Rattle.rules.specs.Rows.{read_row, is_blank}
 use Rattle.rules.specs.Memory.{Rows, row_at, rows_of, intact_in, after_nonblank, free_in, holds_record, dated_from, all_blank}
-use Rattle.memory.specs.Entries.{entry_in, is_there}
+use Rattle.memory.specs.Entries.{entry_in}
 use Rattle.rules.proofs.Counting.{from_append, from_among}
 use Rattle.rules.proofs.Seen.{seen_none_in}
 use Rattle.rules.proofs.Memories.{sight, intact_seen}
 use Rattle.rules.proofs.Places.{blank_sight, free_is as first_free}
 use Rattle.memory.specs.Rounds.{any_record, free_in_empty}
-use Rattle.memory.specs.Releases.{is_dated}
 use Rattle.memory.proofs.Scans.{intact_next}
 
 -- ---- The numbers of a range, from the front and from the back
@@ -50,6 +49,14 @@ counts_down s = YieldsList-from_shown nat_range_steps_back (λ x. x) (λ s. down
         ap (down s.start) one_more ∙ ap₂ (λ y l. y ∷ l) here (ap (λ b. down b (t.end - b)) (sym h.0))
 
 -- ---- The tests of some rows
+
+-- there is a record
+abbrev pub is_there : Option (ℕ × Record) → Bool
+is_there o = when_some o false (λ x. true)
+
+-- the record is of the day or later
+abbrev pub is_dated : (day : ℕ) → Option (ℕ × Record) → Bool
+is_dated day o = when_some o false (λ x. nat_le day x.1.day)
 
 module _ (rows : Rows) where
   pub blank_rows : (is : List ℕ) → list_all (λ i. is_blank (row_at rows i)) is ≡ all_blank rows is

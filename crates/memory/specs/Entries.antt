@@ -1,5 +1,5 @@
 -- Records with their rows
-use Rattle.std.specs.Prelude.{ℕ, Bool, true, false, cond, List, length, nat_lt, Option, None, Some}
+use Rattle.std.specs.Prelude.{ℕ, Bool, false, cond, List, length, nat_lt, Option, None, Some}
 use Rattle.rules.specs.Lists.{when_some}
 use Rattle.rules.specs.Records.{Record}
 use Rattle.rules.specs.Rows.{unpacked, read_row}
@@ -21,9 +21,6 @@ entry_read i row = when_some (read_row row) None (λ r. Some (i, r))
 -- the record in a row, with the row
 abbrev pub entry_in : Rows → ℕ → Option (ℕ × Record)
 entry_in rows i = entry_read i (row_at rows i)
-
-abbrev pub is_there : Option (ℕ × Record) → Bool
-is_there o = when_some o false (λ x. true)
 
 -- the one with the larger number, the first of equals
 abbrev pub better_of : Option (ℕ × Record) → Option (ℕ × Record) → Option (ℕ × Record)

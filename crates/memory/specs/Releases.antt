@@ -1,7 +1,5 @@
 -- Pages in the order of a release, and what a release does
-use Rattle.std.specs.Prelude.{ℕ, ◌+◌, ◌%◌, ◌^◌, Bool, false, cond, List, length, take, nat_le, nat_lt, slice_index, Option, None, Some}
-use Rattle.rules.specs.Lists.{when_some}
-use Rattle.rules.specs.Records.{Record}
+use Rattle.std.specs.Prelude.{ℕ, ◌+◌, ◌%◌, ◌^◌, cond, List, length, take, nat_lt, slice_index, Option, None, Some}
 use Rattle.rules.specs.Memory.{Rows, released_pages, erased}
 use Rattle.memory.specs.declared.pages.Pages.{Pages}
 
@@ -11,10 +9,6 @@ pages_of p = take p.len p.list
 -- the i-th of the pages
 abbrev pub page_at : List ℕ → ℕ → Option ℕ
 page_at ps i = cond (nat_lt i (length ps)) (Some (slice_index ps i)) None
-
--- the record is of the day or later
-abbrev pub is_dated : (day : ℕ) → Option (ℕ × Record) → Bool
-is_dated day o = when_some o false (λ x. nat_le day x.1.day)
 
 -- a release: how many pages it erases, and what rows and count are then
 abbrev pub releases : Rows → (writes day : ℕ) → ℕ × Rows × ℕ

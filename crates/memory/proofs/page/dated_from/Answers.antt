@@ -2,8 +2,7 @@ use Rattle.std.proofs.Common.{◌≡◌, ◌-◌, ◌∙◌, arith, rules, tests
 use Rattle.std.proofs.lemmas.Iterator.Search.{any_from_yields_List}
 use Rattle.rules.specs.Memory.{rows_of}
 use Rattle.memory.specs.Entries.{entry_in}
-use Rattle.memory.specs.Releases.{is_dated}
-use Rattle.memory.proofs.PageScans.{counts_up, dated_rows}
+use Rattle.memory.proofs.PageScans.{counts_up, is_dated, dated_rows}
 use Rattle.memory.proofs.page.dated_from.Goals as goal
 
 pub returns : goal.returns

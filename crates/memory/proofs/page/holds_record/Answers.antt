@@ -1,8 +1,8 @@
 use Rattle.std.proofs.Common.{◌-◌, refl, ◌∙◌, rules, tests}
 use Rattle.std.proofs.lemmas.Iterator.Search.{any_from_yields_List}
 use Rattle.rules.specs.Lists.{from}
-use Rattle.memory.specs.Entries.{entry_in, is_there}
-use Rattle.memory.proofs.PageScans.{counts_up, record_rows}
+use Rattle.memory.specs.Entries.{entry_in}
+use Rattle.memory.proofs.PageScans.{counts_up, is_there, record_rows}
 use Rattle.memory.proofs.page.holds_record.Goals as goal
 
 pub returns : goal.returns
