@@ -30,7 +30,8 @@ fn print<M: Medium>(terminal: &Terminal<M>, number: u32) -> Result<[u8; 76], Lin
 
 /// Stores what was weighed, and voids what cannot be stored.
 fn store<M: Medium>(terminal: &mut Terminal<M>, claim: Claim) -> Result<u32, LineFault>
-    ensures { then_printed (acts a_store (world M.rows M.count terminal.old)) ≡ then_print result (world M.rows M.count terminal.new) }
+    ensures says { then_printed (acts a_store (world M.rows M.count terminal.old)) ≡ then_print result (world M.rows M.count terminal.new) }
+    ensures lender { M.lender terminal.new.medium ≡ M.lender terminal.old.medium }
 {
     // The terminal hands a refused claim back, so that its caller says what becomes of it: here it is given up.
     // A match: of what a closure in `map_err` does to the terminal the proof learns nothing.
@@ -48,7 +49,8 @@ fn weigh_out<M: Medium>(
     terminal: &mut Terminal<M>,
     entered: Entered<'_>,
 ) -> Result<[u8; 76], LineFault>
-    ensures { weighs_out (entries_of entered.entry) (world M.rows M.count terminal.old) ≡ (answer_of result, world M.rows M.count terminal.new) }
+    ensures says { weighs_out (entries_of entered.entry) (world M.rows M.count terminal.old) ≡ (answer_of result, world M.rows M.count terminal.new) }
+    ensures lender { M.lender terminal.new.medium ≡ M.lender terminal.old.medium }
 {
     let claim = terminal.weigh(entered)?;
     let number = store(terminal, claim)?;
@@ -58,7 +60,8 @@ fn weigh_out<M: Medium>(
 impl<M: Medium> Player<M> {
     /// Opens a terminal over a medium, to play the lines that follow.
     pub fn open(medium: M, settings: Settings) -> Player<M>
-        ensures { (on : Option TheIndicator) → playing M.rows M.count result ≡ running (settings_of settings) (acts (opening (settings_of settings)) (world_with M.rows M.count medium on)).1 }
+        ensures opens { (on : Option TheIndicator) → playing M.rows M.count result ≡ running (settings_of settings) (acts (opening (settings_of settings)) (world_with M.rows M.count medium on)).1 }
+        ensures medium { result.terminal.medium ≡ medium }
     {
         Player {
             terminal: Terminal::open(medium, settings),
@@ -68,7 +71,8 @@ impl<M: Medium> Player<M> {
 
     /// Does what a line asks for, and gives the ticket that it prints, if it prints one.
     fn obey(&mut self, item: Item<'_>) -> Result<Option<[u8; 76]>, LineFault>
-        ensures { plays (playing M.rows M.count self.old) item.entry.line (reading item.entry.asks) ≡ (written item.entry.line result, playing M.rows M.count self.new) }
+        ensures says { plays (playing M.rows M.count self.old) item.entry.line (reading item.entry.asks) ≡ (written item.entry.line result, playing M.rows M.count self.new) }
+        ensures lender { M.lender self.new.terminal.medium ≡ M.lender self.old.terminal.medium }
     {
         let terminal = &mut self.terminal;
         // One match: each command is another call of the terminal, with other values.
@@ -106,7 +110,8 @@ impl<M: Medium> Player<M> {
 
     /// Plays a line, and gives what it writes.
     pub fn play(&mut self, item: Item<'_>) -> Reply
-        ensures { plays (playing M.rows M.count self.old) item.entry.line (reading item.entry.asks) ≡ (bytes_of result, playing M.rows M.count self.new) }
+        ensures says { plays (playing M.rows M.count self.old) item.entry.line (reading item.entry.asks) ≡ (bytes_of result, playing M.rows M.count self.new) }
+        ensures lender { M.lender self.new.terminal.medium ≡ M.lender self.old.terminal.medium }
     {
         let line = item.line;
         match self.obey(item) {

@@ -24,7 +24,8 @@ impl Run<'_> {
 
     /// Plays the lines that are left, and gives all that is written then.
     fn play<M: Medium>(mut self, player: &mut Player<M>) -> Result<Vec<u8>, AllocError>
-        ensures { IfOk result (WritesRest (playing M.rows M.count player.old) self.entry) }
+        ensures writes { IfOk result (WritesRest (playing M.rows M.count player.old) self.entry) }
+        ensures lender { M.lender player.new.terminal.medium ≡ M.lender player.old.terminal.medium }
     {
         for item in self.reader {
             let reply = player.play(item);

@@ -6,7 +6,7 @@ use Rattle.rules.specs.Rows.{packing}
 use Rattle.rules.specs.Settings.{Settings}
 use Rattle.rules.specs.Terminal.{no_tare, ready, Indicator, World, set_zero, take_tare, clear_tare, preset_tare, Entries, Call, opening, sample, key, weigh, store, print, release, Answer, done, gives, prints, refuses, with_zero, with_indicator, acts}
 use Rattle.rules.specs.Replay.{eight_pages}
-use Rattle.rules.specs.Trace.{flash, sectors, Command, to_begin, to_sample, to_press, to_weigh, to_reopen, to_release, to_print, lines, command_of}
+use Rattle.rules.specs.Trace.{flash, sectors, Command, to_begin, to_sample, to_press, to_weigh, to_reopen, to_release, to_print, lines, command_of, mark_place}
 
 -- ---- A terminal with a load on it
 
@@ -123,6 +123,8 @@ pub record WorkedLines : Type 0 where
   pub any_mark :
       (asked (codes "W 1 2 a-b 3") ≡ Some (to_weigh (record { day = 1; minute = 2; mark = codes "a-b"; unit_price = 3 })))
       × (asked (codes "W 1 2 A B 3") ≡ None)
+  -- a mark has its own place in its line, also where the same bytes stand before it
+  pub mark_places : (mark_place (codes "W 9500 615 KL4420 18555" ++ (10 ∷ [])) ≡ 11) × (mark_place (codes "W 22 2 22 5" ++ (10 ∷ [])) ≡ 7)
   -- one space before each field, and nothing else
   pub spaces :
       (asked [] ≡ None) × (asked (codes "Z ") ≡ None) × (asked (codes " Z") ≡ None) × (asked (codes "L  1") ≡ None) × (asked (codes "L 1 ") ≡ None)

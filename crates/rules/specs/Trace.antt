@@ -1,5 +1,5 @@
 -- A trace: text in lines, each of which asks a terminal for something
-use Rattle.std.specs.Prelude.{ℕ, ◌+◌, cond, ◌&&◌, List, [], ◌∷◌, length, ℤ, pos, neg_ℤ, ◌==◌, nat_le, Option, None, Some}
+use Rattle.std.specs.Prelude.{ℕ, ◌+◌, cond, ◌&&◌, List, [], ◌∷◌, length, take, ℤ, pos, neg_ℤ, ◌==◌, nat_le, Option, None, Some}
 use Rattle.rules.specs.Lists.{when_some}
 use Rattle.rules.specs.Terminal.{Key, set_zero, take_tare, clear_tare, preset_tare, Entries, all_digits, written}
 
@@ -126,6 +126,15 @@ asks_by letter ws =
 -- what a line asks for; none where it is bad
 unfoldable pub command_of : (line : List ℕ) → Option Command
 command_of line = when_some (text_of line) None (λ text. next a_byte (words text) asks_by)
+
+-- so many bytes are these words, with a space behind each
+abbrev pub spaced : List (List ℕ) → ℕ
+spaced [] = 0
+spaced (w ∷ ws) = length w + 1 + spaced ws
+
+-- where the mark begins in a line of W: behind the letter, the day and the minute
+unfoldable pub mark_place : (line : List ℕ) → ℕ
+mark_place line = when_some (text_of line) 0 (λ text. spaced (take 3 (words text)))
 
 -- ---- Reading line by line
 

@@ -1,11 +1,11 @@
 -- Words that are taken one after another
-use Rattle.std.proofs.Common.{◌≡◌, ℕ, ◌<◌, pos, ltb, Bor, List, [], ◌∷◌, length, MatchOption, sym, refl, ap, ◌∙◌, inl, inr, arith, w32, to_z, Option, None, Some}
+use Rattle.std.proofs.Common.{◌≡◌, ℕ, ◌+◌, ◌<◌, Bool, true, false, pos, ltb, Bor, List, [], ◌∷◌, length, take, MatchOption, IfSome, subst, sym, refl, ap, ◌∙◌, inl, inr, arith, w32, to_z, Option, None, Some}
 use Rattle.std.specs.Prelude.{option_map}
 use Rattle.std.proofs.lemmas.Int.{ints}
 use Rattle.std.specs.Bool.{then_some}
 use Rattle.std.proofs.lemmas.Bool.{ne_eqb, cases_lt, lt-ltb, le-ltb}
 use Rattle.rules.specs.Lists.{when_some}
-use Rattle.rules.specs.Trace.{first_as, next, at_end, a_byte, asks_by}
+use Rattle.rules.specs.Trace.{first_as, next, at_end, a_byte, asks_by, spaced}
 use Rattle.trace.specs.declared.command.Command.{Command}
 use Rattle.trace.specs.declared.fields.Fields.{Fields}
 use Rattle.trace.specs.Meaning.{meaning, words_left, read_as, TakesWord}
@@ -79,3 +79,31 @@ pub no_letter : (ws : List (List ℕ)) (l : ℕ) → (l ≡ 66 → ⊥) → (l �
 unfolding asks_by
 no_letter ws l b s z t p n w o r last =
     rw (ne_eqb l 66 b, ne_eqb l 83 s, ne_eqb l 90 z, ne_eqb l 84 t, ne_eqb l 80 p, ne_eqb l 78 n, ne_eqb l 87 w, ne_eqb l 79 o, ne_eqb l 82 r, ne_eqb l 76 last)
+
+-- ---- Places
+
+-- a word was taken of the text, and the place is then behind it and its space
+abbrev pub Taken : (before after : Fields) → Type 0
+Taken before after = (word : List ℕ) × (words_left before ≡ word ∷ words_left after) × (after.place ≡ before.place + (length word + 1))
+
+first_is : (ws rest : List (List ℕ)) (w : List ℕ) → Some (w, rest) ≡ first_as Some ws → ws ≡ w ∷ rest
+first_is [] rest w e = let P : Option (List ℕ × List (List ℕ)) → Type 0 = λ o. MatchOption o ⊥ (λ p. Unit {0}) in absurd (subst P e tt)
+first_is (v ∷ vs) rest w e = sym (ap (λ o. when_some o [] (λ p. p.0 ∷ p.1)) e)
+
+-- what was read was read of a word that was taken
+pub taken : {T : Type 0} (before after : Fields) (t : T) (P : Bor (List ℕ) → Type 0)
+    → (word : Option (Bor (List ℕ))) × TakesWord before after word × MatchOption word (Some t ≡ None) P
+    → Taken before after
+taken {T} before after t P (None, is, e) = let D : Option T → Type 0 = λ o. MatchOption o ⊥ (λ k. Unit {0}) in absurd (subst D e tt)
+taken before after t P (Some w, is, e) = (w.now, first_is (words_left before) (words_left after) w.now is.0, is.3)
+
+-- where three words were taken
+pub behind_three : (a b c d : Fields) → Taken a b → Taken b c → Taken c d → d.place ≡ a.place + spaced (take 3 (words_left a))
+behind_three a b c d (x, ex, px) (y, ey, py) (z, ez, pz) =
+    let three : words_left a ≡ x ∷ y ∷ z ∷ words_left d = ex ∙ ap (λ ws. x ∷ ws) ey ∙ ap (λ ws. x ∷ y ∷ ws) ez in
+    omega (arith, px, py, pz, ap (λ ws. spaced (take 3 ws)) three)
+
+-- a command that may be given has what it has
+pub then_given : (P : Command → Type 0) (r : Option Command) (b : Bool) (c : Command) → r ≡ then_some b c → P c → IfSome r P
+then_given P r true c e h = subst (λ r. IfSome r P) (sym e) h
+then_given P r false c e h = subst (λ r. IfSome r P) (sym e) tt

@@ -18,7 +18,7 @@ pub enum Command<'a> {
     /// A tare in intervals.
     Preset(i32),
     ClearTare,
-    /// The mark is a part of the trace, and begins at the place.
+    /// The mark is a part of the trace, and begins at the place, counted from the first byte of the trace.
     Weigh {
         day: u16,
         minute: u32,

@@ -1,8 +1,8 @@
 //! The words of a line, one after another, and what they ask for.
 
-ghost use Rattle.std.specs.Prelude.{◌≡◌, MatchOption, None, option_map};
-ghost use Rattle.rules.specs.Trace.{a_byte, next, asks_by};
-ghost use Rattle.trace.specs.Meaning.{meaning, MarksIn, words_left, TakesWord};
+ghost use Rattle.std.specs.Prelude.{◌≡◌, ◌+◌, take, IfSome, MatchOption, None, option_map};
+ghost use Rattle.rules.specs.Trace.{a_byte, next, asks_by, spaced};
+ghost use Rattle.trace.specs.Meaning.{meaning, MarksIn, MarkAt, words_left, TakesWord};
 
 use crate::command::Command;
 use crate::fields::Fields;
@@ -31,6 +31,7 @@ impl<'a> Fields<'a> {
     pub(crate) fn command(&mut self) -> Option<Command<'a>>
         ensures command { option_map meaning result ≡ next a_byte (words_left self.old) asks_by }
         ensures marks { MarksIn self.old.text.now result }
+        ensures place { IfSome result (MarkAt (self.old.place + spaced (take 3 (words_left self.old)))) }
     {
         // One match: each letter is followed by other words, so a table of letters would need a function for each.
         let command = match self.read(words::single)? {

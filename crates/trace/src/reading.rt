@@ -1,9 +1,9 @@
 //! Reads a trace line by line.
 
-ghost use Rattle.std.specs.Prelude.{◌≡◌, ◌≤◌, length, take, IfSome};
+ghost use Rattle.std.specs.Prelude.{◌≡◌, ◌+◌, ◌≤◌, length, take, IfSome};
 ghost use Rattle.std.specs.Iterator.{at_most};
 ghost use Rattle.rules.specs.Trace.{trace_limit, lines as lines_of, next_line};
-ghost use Rattle.trace.specs.Meaning.{ItemIn, HandsOut, standing, handed};
+ghost use Rattle.trace.specs.Meaning.{ItemIn, ItemAt, HandsOut, standing, line_of, handed};
 
 use crate::command::Item;
 use crate::fault::TraceFault;
@@ -19,6 +19,7 @@ impl<'a> Reader<'a> {
     pub fn over(bytes: &'a [u8]) -> Reader<'a>
         ensures trace { result.trace.now ≡ take trace_limit bytes.now }
         ensures standing { standing result ≡ (0, lines_of (take trace_limit bytes.now)) }
+        ensures place { result.place ≡ 0 }
     {
         Reader {
             trace: &bytes[..bytes.len().min(LONGEST_TRACE)],
@@ -33,7 +34,9 @@ impl<'a> Reader<'a> {
         ensures item { handed result self.new ≡ next_line (standing self.old).0 (standing self.old).1 }
         ensures few { IfSome result (λ i. i.line ≤ trace_limit) }
         ensures mark { ItemIn self.old.trace.now result }
+        ensures place { ItemAt self.old.place (line_of self.old) result }
         ensures trace { self.new.trace.now ≡ self.old.trace.now }
+        ensures behind { self.new.place ≡ self.old.place + length (line_of self.old) }
     {
         let start = self.place;
         let rest = &self.trace[start..];

@@ -11,5 +11,5 @@ pub returns : goal.returns
 returns g c =
     let s = settings_of c.args.settings in
     let begun : playing g.M.Medium.rows g.M.Medium.count c.open.result ≡ opened c.args.settings =
-    c.open.ensures None ∙ ap (λ w. running s (acts (opening s) w).1) (blank_world _ _ c.requires.0 c.requires.1) in
-    subst (λ r. IfOk c.play.result (λ v. v.items ≡ whole_of r c.args.self)) begun c.play.ensures
+    c.open.ensures.opens None ∙ ap (λ w. running s (acts (opening s) w).1) (blank_world _ _ c.requires.0 c.requires.1) in
+    subst (λ r. IfOk c.play.result (λ v. v.items ≡ whole_of r c.args.self)) begun c.play.ensures.writes

@@ -1,10 +1,11 @@
-use Rattle.std.proofs.Common.{sym, refl, ap, ◌∙◌, w32, rules, arith}
+use Rattle.std.proofs.Common.{◌+◌, take, sym, refl, ap, ◌∙◌, subst, w32, rules, arith}
 use Rattle.std.specs.Prelude.{option_map}
 use Rattle.std.proofs.lemmas.Int.{to_z-of_z}
-use Rattle.rules.specs.Trace.{a_byte, a_kind, a_number, a_load, a_day, a_mark, at_end, to_sample, to_press, asks_by, asks_to_begin, asks_to_sample, asks_to_preset, asks_to_weigh, asks_to_release, asks_to_print}
+use Rattle.rules.specs.Trace.{a_byte, a_kind, a_number, a_load, a_day, a_mark, at_end, to_sample, to_press, asks_by, asks_to_begin, asks_to_sample, asks_to_preset, asks_to_weigh, asks_to_release, asks_to_print, spaced}
 use Rattle.rules.specs.Terminal.{preset_tare}
-use Rattle.trace.specs.Meaning.{kind_of, meaning, words_left}
-use Rattle.trace.proofs.WordsTaken.{next_is, next_fails, reads, reads_so, stands, small, unsigned, letter_is, no_letter}
+use Rattle.trace.specs.declared.command.Command.{Command}
+use Rattle.trace.specs.Meaning.{kind_of, meaning, MarkAt, words_left}
+use Rattle.trace.proofs.WordsTaken.{next_is, next_fails, reads, reads_so, stands, small, unsigned, letter_is, no_letter, taken, behind_three, then_given}
 use Rattle.trace.proofs.fields.Fields.command.Goals as goal
 use Rattle.trace.proofs.fields.Fields.command.Goals.{in-66+in_ok-read-in-66+in_ok-read-in-66-2+in_ok-read-in-66-3+in_ok-read-in-66-4, in-83+in_ok-read-in-83, in-90, in-84, in-80+in_ok-read-in-80, in-78, in-87+in_ok-read-in-87+in_ok-read-in-87-2+in_ok-read-in-87-3+in_ok-read-in-87-4, in-79, in-82+in_ok-day-in-82+in_ok-today-in-82, in-76+in_ok-read-in-76}
 
@@ -148,3 +149,24 @@ returns-clause-command c =
       | in-76+in_ok-read-in-76 w ↦ ap (λ f. at_end (words_left f) (meaning command)) w.self-is ∙ ap (λ k. at_end (words_left w.read-in-76.new.self) (meaning k)) w.command-is ∙ sym (letter_is _ _ _ 76 (reads_so (λ c. c) a_byte c.args.self.now c.read.new.self _ c.in_ok-read.ensures) w.in-76.is
           ∙ next_is a_number _ _ _ _ (reads (λ n. n) a_number c.read.new.self w.read-in-76.new.self _ _ w.in_ok-read-in-76.ensures))
     ]
+
+pub returns-clause-place : goal.returns-clause-place
+returns-clause-place c =
+    let fields = c.args.self.now in
+    let At : Command → Type 0 = MarkAt (fields.place + spaced (take 3 (words_left fields))) in
+    then_given At c.then_some.result _ c.match-branch-2.command c.then_some.ensures (elim c.match-branch-2.branch [
+      | in-66+in_ok-read-in-66+in_ok-read-in-66-2+in_ok-read-in-66-3+in_ok-read-in-66-4 w ↦ subst At (sym w.command-is) tt
+      | in-83+in_ok-read-in-83 w ↦ subst At (sym w.command-is) tt
+      | in-90 w ↦ subst At (sym w.command-is) tt
+      | in-84 w ↦ subst At (sym w.command-is) tt
+      | in-80+in_ok-read-in-80 w ↦ subst At (sym w.command-is) tt
+      | in-78 w ↦ subst At (sym w.command-is) tt
+      | in-87+in_ok-read-in-87+in_ok-read-in-87-2+in_ok-read-in-87-3+in_ok-read-in-87-4 w ↦
+          let letter = taken fields c.read.new.self _ _ c.in_ok-read.ensures in
+          let day = taken c.read.new.self w.read-in-87.new.self _ _ w.in_ok-read-in-87.ensures in
+          let minute = taken w.read-in-87.new.self w.read-in-87-2.new.self _ _ w.in_ok-read-in-87-2.ensures in
+          subst At (sym w.command-is) (behind_three fields c.read.new.self w.read-in-87.new.self w.read-in-87-2.new.self letter day minute)
+      | in-79 w ↦ subst At (sym w.command-is) tt
+      | in-82+in_ok-day-in-82+in_ok-today-in-82 w ↦ subst At (sym w.command-is) tt
+      | in-76+in_ok-read-in-76 w ↦ subst At (sym w.command-is) tt
+    ])
