@@ -39,16 +39,8 @@ item_of i = (i.line, reading i.asks)
 
 -- P holds of the mark of a command and its place, if it has a mark
 abbrev pub IfMark : Command → (List ℕ → ℕ → Type 0) → Type 0
-IfMark (Begin kind class kg max) P = Unit {0}
-IfMark (Sample load) P = Unit {0}
-IfMark Zero P = Unit {0}
-IfMark Tare P = Unit {0}
-IfMark (Preset value) P = Unit {0}
-IfMark ClearTare P = Unit {0}
 IfMark (Weigh day minute mark place price) P = P mark.now place
-IfMark Reopen P = Unit {0}
-IfMark (Release day today) P = Unit {0}
-IfMark (Print number) P = Unit {0}
+IfMark c P = Unit {0}
 
 -- a mark stands in a text at its place
 abbrev pub MarkIn : (text : List ℕ) → Command → Type 0
