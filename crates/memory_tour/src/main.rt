@@ -2,6 +2,9 @@
 
 #![tactic(auto)]
 
+ghost use Rattle.memory.specs.Faults.{finds as finds_record};
+ghost use Rattle.memory_tour.specs.Examples.{appends_example};
+
 use media::Medium;
 use memory::{Entry, MemoryFault, append, check_order, find, newest, next_number, next_row};
 use records::Record;
@@ -34,6 +37,10 @@ fn tell<M: Medium + Drop>(memory: &Visit<'_, M>) -> io::Result<()> {
 struct Appends;
 
 impl Calls for Appends {
+    ghost stores = { appends_example };
+
+    ghost finds = { finds_record };
+
     /// Packs the example of a day under the next number, and appends it.
     #[tactic(auto, using(rules::proofs::MemoryLaws::next_number_from_one))]
     fn store<M: Medium>(memory: &mut M, day: u16) -> Result<(), MemoryFault> {

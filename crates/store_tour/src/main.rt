@@ -3,6 +3,9 @@
 
 #![tactic(auto)]
 
+ghost use Rattle.memory.specs.Faults.{looks_up};
+ghost use Rattle.store_tour.specs.Examples.{stores_example};
+
 use media::Medium;
 use memory::{MemoryFault, look_up, store};
 use records::{Record, Weighing};
@@ -13,6 +16,10 @@ use tours::{Calls, Tour, Visit, example, tour_both};
 struct Stores;
 
 impl Calls for Stores {
+    ghost stores = { stores_example };
+
+    ghost finds = { looks_up };
+
     /// Stores the weighing of a day.
     fn store<M: Medium>(memory: &mut M, day: u16) -> Result<(), MemoryFault> {
         store(memory, Weighing::try_from(example(1, day)).unwrap())?;

@@ -1,5 +1,10 @@
-ghost use Rattle.std.specs.Prelude.{◌≡◌, ℕ, ◌+◌, ◌≤◌, IfOk};
+ghost use Rattle.std.specs.Prelude.{◌≡◌, ℕ, Option, IfOk};
+ghost use Rattle.rules.specs.Memory.{Rows};
+ghost use Rattle.rules.specs.Media.{Outcome};
+ghost use Rattle.rules.specs.Records.{Record as TheRecord};
+ghost use Rattle.memory.specs.Faults.{outcome, found as record_found};
 ghost use Rattle.memory.specs.Releases.{releases};
+ghost use Rattle.tours.specs.Fills.{fills};
 
 use crate::lines::Lines;
 use media::{Cells, Flash, Medium, Sectors};
@@ -48,7 +53,8 @@ impl<M: Medium + Drop> Visit<'_, M> {
 
     /// Stores the example once a day, for 100 days at most, until it is refused; answers the first day on which nothing was stored.
     pub fn fill<C: Calls>(&mut self, first: u16) -> io::Result<u16>
-        ensures days { IfOk result (λ day. (first ≤ day) × (day ≤ first + 100)) }
+        ensures says { (fills C.stores (M.rows self.old.medium) (M.count self.old.medium) first).1 ≡ (M.rows self.new.medium, M.count self.new.medium) }
+        ensures day { IfOk result (λ day. day ≡ (fills C.stores (M.rows self.old.medium) (M.count self.old.medium) first).0) }
         ensures lender { M.lender self.new.medium ≡ M.lender self.old.medium }
     {
         let end = first.saturating_add(100);
@@ -64,12 +70,20 @@ impl<M: Medium + Drop> Visit<'_, M> {
 
 /// How a tour stores and finds, over whatever medium.
 pub trait Calls {
+    /// What a store does: the outcome, and what rows and count are then.
+    ghost stores: { Rows → (writes day : ℕ) → Outcome × Rows × ℕ };
+
+    /// What a find answers: the outcome, and the record of that number.
+    ghost finds: { Rows → (number : ℕ) → Outcome × Option TheRecord };
+
     /// Stores the example of a day.
     fn store<M: Medium>(memory: &mut M, day: u16) -> Result<(), MemoryFault>
-        ensures { M.lender memory.new ≡ M.lender memory.old };
+        ensures says { stores (M.rows memory.old) (M.count memory.old) day ≡ (outcome result, M.rows memory.new, M.count memory.new) }
+        ensures lender { M.lender memory.new ≡ M.lender memory.old };
 
     /// The record of a number, if it is found.
-    fn find<M: Medium>(memory: &M, number: u64) -> Result<Record, MemoryFault>;
+    fn find<M: Medium>(memory: &M, number: u64) -> Result<Record, MemoryFault>
+        ensures { finds (M.rows memory.now) number ≡ (outcome result, record_found result) };
 }
 
 /// A tour of a medium, of whatever kind.

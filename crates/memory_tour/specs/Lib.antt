@@ -1,0 +1,2 @@
+-- What the tour's own store does
+pub mod Examples
