@@ -2,6 +2,8 @@
 
 #![tactic(auto)]
 
+ghost use Rattle.memory_tour.specs.Days.{appends_day};
+
 use media::Medium;
 use memory::{Entry, MemoryFault, append, check_order, find, newest, next_number, next_row};
 use records::Record;
@@ -34,6 +36,8 @@ fn tell<M: Medium + Drop>(memory: &Visit<'_, M>) -> io::Result<()> {
 struct Appends;
 
 impl Calls for Appends {
+    ghost stores = { appends_day };
+
     /// Packs the example of a day under the next number, and appends it.
     #[tactic(auto, using(rules::proofs::MemoryLaws::next_number_from_one))]
     fn store<M: Medium>(memory: &mut M, day: u16) -> Result<(), MemoryFault> {

@@ -3,6 +3,8 @@
 
 #![tactic(auto)]
 
+ghost use Rattle.store_tour.specs.Days.{stores_day};
+
 use media::Medium;
 use memory::{MemoryFault, look_up, store};
 use records::{Record, Weighing};
@@ -13,6 +15,8 @@ use tours::{Calls, Tour, Visit, example, tour_both};
 struct Stores;
 
 impl Calls for Stores {
+    ghost stores = { stores_day };
+
     /// Stores the weighing of a day.
     fn store<M: Medium>(memory: &mut M, day: u16) -> Result<(), MemoryFault> {
         store(memory, Weighing::try_from(example(1, day)).unwrap())?;

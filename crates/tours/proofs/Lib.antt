@@ -1,1 +1,2 @@
 pub mod TheExample
+pub mod Fillings

@@ -1,5 +1,7 @@
-ghost use Rattle.std.specs.Prelude.{◌≡◌, ℕ, ◌+◌, ◌≤◌, IfOk};
+ghost use Rattle.std.specs.Prelude.{◌≡◌, ℕ, ◌+◌, ◌-◌, ◌^◌, ◌≤◌, min, IfOk};
+ghost use Rattle.std.specs.Result.{is_ok};
 ghost use Rattle.memory.specs.Releases.{releases};
+ghost use Rattle.tours.specs.Visits.{Storing, fills};
 
 use crate::lines::Lines;
 use media::{Cells, Flash, Medium, Sectors};
@@ -49,6 +51,7 @@ impl<M: Medium + Drop> Visit<'_, M> {
     /// Stores the example once a day, for 100 days at most, until it is refused; answers the first day on which nothing was stored.
     pub fn fill<C: Calls>(&mut self, first: u16) -> io::Result<u16>
         ensures days { IfOk result (λ day. (first ≤ day) × (day ≤ first + 100)) }
+        ensures says { IfOk result (λ day. fills C.stores (M.rows self.old.medium) (M.count self.old.medium) first (min (first + 100) (2 ^ 16 - 1) - first) ≡ (day, M.rows self.new.medium, M.count self.new.medium)) }
         ensures lender { M.lender self.new.medium ≡ M.lender self.old.medium }
     {
         let end = first.saturating_add(100);
@@ -64,9 +67,13 @@ impl<M: Medium + Drop> Visit<'_, M> {
 
 /// How a tour stores and finds, over whatever medium.
 pub trait Calls {
+    /// Whether the example of a day is stored over such rows and such a count of writes, and what they are then.
+    ghost stores: { Storing };
+
     /// Stores the example of a day.
     fn store<M: Medium>(memory: &mut M, day: u16) -> Result<(), MemoryFault>
-        ensures { M.lender memory.new ≡ M.lender memory.old };
+        ensures says { stores (M.rows memory.old) (M.count memory.old) day ≡ (is_ok result, M.rows memory.new, M.count memory.new) }
+        ensures lender { M.lender memory.new ≡ M.lender memory.old };
 
     /// The record of a number, if it is found.
     fn find<M: Medium>(memory: &M, number: u64) -> Result<Record, MemoryFault>;

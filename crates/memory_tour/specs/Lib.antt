@@ -1,0 +1,2 @@
+-- What the append of a day does
+pub mod Days

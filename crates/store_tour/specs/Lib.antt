@@ -1,0 +1,2 @@
+-- What the store of a day does
+pub mod Days

@@ -1,0 +1,2 @@
+-- What a visit of a medium does
+pub mod Visits
