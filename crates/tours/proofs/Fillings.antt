@@ -1,5 +1,5 @@
 -- A memory that is filled, day by day
-use Rattle.std.proofs.Common.{◌≡◌, ℕ, ◌+◌, ◌-◌, ◌<◌, ◌≤◌, Bool, true, false, suc, zero, cond, sym, refl, ap, ◌∙◌, arith}
+use Rattle.std.proofs.Common.{◌≡◌, ℕ, zero, suc, ◌+◌, ◌-◌, ◌≤◌, true, false, refl, ap, arith}
 use Rattle.rules.specs.Memory.{Rows}
 use Rattle.tours.specs.Visits.{Storing, fills}
 
