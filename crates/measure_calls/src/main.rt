@@ -118,6 +118,7 @@ fn run<M: Medium + Drop>(mut medium: M, call: Call) -> anyhow::Result<u64> {
 
 /// The call over so many blank pages of a kind.
 fn measure(cells: &mut [u8], kind: MediumKind, call: Call) -> anyhow::Result<u64> {
+    // No `ok` and `context`: the proof follows no call that takes a result which holds lent bytes either way.
     let Ok(cells) = Cells::check(cells) else {
         return Err(anyhow!("2 to 64 pages"));
     };

@@ -52,6 +52,7 @@ impl Run<'_> {
     {
         let settings = beginning.settings;
         let mut cells = [0xFF; 4096];
+        // No `unwrap`: the proof follows no call that takes a result which holds lent bytes either way.
         let Ok(checked) = Cells::check(&mut cells) else {
             unreachable!();
         };

@@ -42,7 +42,7 @@ impl<M: Medium> Terminal<M> {
         self.indicator = Indicator::open(settings);
     }
 
-    /// Switches off, and gives the medium back as it is.
+    /// Ends the terminal, and gives the medium back as it is, its count too.
     pub fn close(self) -> M
         ensures { result ≡ self.medium }
     {

@@ -96,6 +96,7 @@ pub trait Tour {
 pub fn tour_both<T: Tour>(rt: &HostRuntime, content: [u8; 1024]) -> io::Result<()> {
     let mut one = content;
     let mut other = content;
+    // No `unwrap`: the proof follows no call that takes a result which holds lent bytes either way.
     let Ok(cells) = Cells::check(&mut one) else {
         unreachable!();
     };
