@@ -2,16 +2,14 @@
 use Rattle.std.specs.Prelude.{ℕ}
 use Rattle.rules.specs.Memory.{Rows}
 use Rattle.rules.specs.Media.{Outcome, accepted, refused}
-use Rattle.rules.specs.Terminal.{Answer, done, gives, prints, refuses}
+use Rattle.rules.specs.Terminal.{Answer, refuses}
 use Rattle.memory.specs.Stores.{stores}
 use Rattle.tours.specs.Examples.{example_of}
 
 -- an answer without the number that it gives
 abbrev pub outcome_of : Answer → Outcome
-outcome_of done = accepted
-outcome_of (gives number) = accepted
-outcome_of (prints line) = accepted
 outcome_of (refuses number place) = refused number place
+outcome_of a = accepted
 
 -- what a store of a weighing does; a weighing has the number 0
 abbrev pub stores_example : Rows → (writes day : ℕ) → Outcome × Rows × ℕ
