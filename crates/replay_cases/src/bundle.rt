@@ -1,8 +1,7 @@
 //! Where the cases of a bundle begin, and their names.
 
 ghost use Rattle.std.specs.Prelude.{ℕ, ◌≡◌, ◌≤◌, ◌<◌, ◌+◌, ◌-◌, ◌==◌, true, false, IfSome, MatchOption, [], ◌∷◌, length, take, drop, position};
-ghost use Rattle.std.specs.Option.{unwrap_or};
-ghost use Rattle.replay_cases.specs.Bundles.{begins, begins_at};
+ghost use Rattle.replay_cases.specs.Bundles.{begins, begins_at, name_size};
 
 /// Whether three bytes end a line and begin a case.
 fn begins(start: &[u8]) -> bool
@@ -52,8 +51,8 @@ fn name_end(case: &[u8]) -> Option<usize>
 
 /// The name of a case, and its trace behind the line feed that ends the name.
 pub(crate) fn split_name(case: &[u8]) -> (&[u8], &[u8])
-    ensures name { result.0.now ≡ take (unwrap_or (position (λ b. b == 10) case.now) (length case.now)) case.now }
-    ensures trace { result.1.now ≡ drop (unwrap_or (position (λ b. b == 10) case.now) (length case.now) + 1) case.now }
+    ensures name { result.0.now ≡ take (name_size case.now) case.now }
+    ensures trace { result.1.now ≡ drop (name_size case.now + 1) case.now }
 {
     let size = name_end(case).unwrap_or(case.len());
     (&case[..size], case.get(size + 1..).unwrap_or(&[]))
