@@ -84,3 +84,39 @@ same_record n day minute unit i j g k l t s net price m o code kind tare mark ne
       price = sym price_is x;
       mark = mark x;
     }
+
+-- ---- A record in the fields of a row
+
+module _ (r : Record) where
+  pub unbounded : bounded r.number r.minute r.gross r.tare r.net r.unit_price ≡ false → lawful r ≡ false
+  unfolding lawful
+  unbounded h = grind (arith, nat_tests)
+
+  pub all_right :
+      bounded r.number r.minute r.gross r.tare r.net r.unit_price ≡ true → r.number < 2 ^ 32 → r.day < 2 ^ 16 → r.interval ≤ 5
+      → lawful_tare r.tare_kind r.tare ≡ true → r.net ≡ r.gross - r.tare → r.price ≡ price_of (r.net * kg_of r.interval) r.unit_price → lawful_mark r.mark ≡ true
+      → lawful r ≡ true
+  unfolding lawful
+  all_right numbers number day interval tare net price mark =
+      let sum : r.net + r.tare ≡ r.gross = grind (arith, nat_tests) in
+      let low : leb 1 r.number ≡ true = grind (arith, nat_tests) in
+      let minute : leb r.minute 1439 ≡ true = grind (arith, nat_tests) in
+      let unit : leb r.unit_price 1000000 ≡ true = grind (arith, nat_tests) in
+      let gross : leb r.gross 10009 ≡ true = grind (arith, nat_tests) in
+      let heavy : leb r.tare 10000 ≡ true = grind (arith, nat_tests) in
+      let some : leb 1 r.net ≡ true = grind (arith, nat_tests) in
+      rw (
+        low,
+        lt-ltb r.number (2 ^ 32) number,
+        lt-ltb r.day (2 ^ 16) day,
+        minute,
+        le-leb r.interval 5 interval,
+        gross,
+        heavy,
+        tare,
+        some,
+        eq-eqb (r.net + r.tare) r.gross sum,
+        unit,
+        eq-eqb r.price (price_of (r.net * kg_of r.interval) r.unit_price) price,
+        mark,
+      )

@@ -5,11 +5,11 @@ ghost use Rattle.rules.specs.Lists.{number_of};
 ghost use Rattle.rules.specs.Records.{lawful};
 ghost use Rattle.rules.specs.Rows.{fields as fields_of, side_by_side};
 ghost use Rattle.records.specs.FieldsOf.{field_list, FitsWidths, is_record, record_in, TareSays};
-ghost use Rattle.records.specs.RecordsOf.{record_of};
+ghost use Rattle.records.specs.RecordsOf.{bounded, record_of};
 
 use crate::bits::{Field, Reader, Writer};
 use crate::mark::Mark;
-use crate::record::{Record, Tare, Weight};
+use crate::record::{Record, Tare, Weight, are_bounded};
 use loads::Interval;
 
 /// What the field of the kind holds in the row of a record.
@@ -120,18 +120,33 @@ impl Fields {
         }
     }
 
-    /// Whether the net weight and the price of the fields are those of a record, and the record is lawful.
-    fn agrees(self, found: Record) -> bool
-        ensures { result ≡ (self.net == (record_of found).net && (self.price == (record_of found).price && lawful (record_of found))) }
+    /// Whether the numbers in the fields lie within their bounds.
+    fn are_bounded(self) -> bool
+        ensures { result ≡ bounded self.number self.minute self.gross self.tare self.net self.unit_price }
     {
-        self.net == found.net().0 && u64::from(self.price) == found.price() && found.is_lawful()
+        are_bounded(
+            self.number,
+            self.minute,
+            Weight(self.gross),
+            Weight(self.tare),
+            Weight(self.net),
+            self.unit_price,
+        )
+    }
+
+    /// Whether the net weight and the price of the fields are those of a record.
+    fn agrees(self, found: Record) -> bool
+        ensures { result ≡ (self.net == (record_of found).net && self.price == (record_of found).price) }
+    {
+        self.net == found.net().0 && u64::from(self.price) == found.price()
     }
 
     /// The record in the fields, if it is lawful.
     pub(crate) fn record(self) -> Option<Record>
         ensures { option_map record_of result ≡ (if is_record self then Some (record_in self) else None) }
     {
-        if self.kind != KIND || self.spare != SPARE {
+        // Their bounds first: a look at them is short, and the mark and the price of a row that is damaged are not worked out.
+        if self.kind != KIND || self.spare != SPARE || !self.are_bounded() {
             return None;
         }
         let found = Record {

@@ -69,6 +69,23 @@ pub struct Record {
     pub mark: Mark,
 }
 
+/// Whether the numbers of a record lie within their bounds.
+pub(crate) fn are_bounded(
+    number: u32,
+    minute: u16,
+    gross: Weight,
+    tare: Weight,
+    net: Weight,
+    unit_price: u32,
+) -> bool
+    ensures { result ≡ bounded number minute gross.0 tare.0 net.0 unit_price }
+{
+    if number == 0 || minute > 1439 || unit_price > 1_000_000 {
+        return false;
+    }
+    gross.0 <= 10_009 && tare.0 <= 10_000 && net.0 > 0
+}
+
 impl Record {
     /// The net weight: gross less tare.
     pub fn net(self) -> Weight
@@ -91,10 +108,14 @@ impl Record {
     fn is_bounded(self) -> bool
         ensures { result ≡ bounded self.number self.minute self.gross.0 (tare_value_of self.tare) (self.gross.0 - tare_value_of self.tare) self.unit_price }
     {
-        if self.number == 0 || self.minute > 1439 || self.unit_price > 1_000_000 {
-            return false;
-        }
-        self.gross.0 <= 10_009 && self.tare.weight().0 <= 10_000 && self.net().0 > 0
+        are_bounded(
+            self.number,
+            self.minute,
+            self.gross,
+            self.tare.weight(),
+            self.net(),
+            self.unit_price,
+        )
     }
 
     /// Whether it may be stored.

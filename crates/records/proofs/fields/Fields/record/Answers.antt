@@ -1,4 +1,4 @@
-use Rattle.std.proofs.Common.{◌≡◌, ◌-◌, ◌*◌, ◌^◌, ◌≤◌, Bool, true, false, cond, ◌&&◌, eqb, ltb, sym, refl, ap, ◌∙◌, Ok, Err, Result, None, Some}
+use Rattle.std.proofs.Common.{◌≡◌, ◌-◌, ◌*◌, ◌^◌, ◌≤◌, Bool, true, false, cond, ◌&&◌, eqb, ltb, sym, refl, ap, ◌∙◌, ◌<◌, rules, Ok, Err, Result, None, Some}
 use Rattle.std.specs.Prelude.{option_map}
 use Rattle.std.specs.Result.{result_ok}
 use Rattle.std.specs.Bool.{then_some}
@@ -6,7 +6,7 @@ use Rattle.std.proofs.Math.Bool.{and-false}
 use Rattle.rules.specs.Lists.{digits_of}
 use Rattle.rules.specs.Loads.{kg_of, price_of}
 use Rattle.rules.specs.Records.{Record as TheRecord, lawful, lawful_mark, numbered, unnumbered}
-use Rattle.std.proofs.lemmas.Bool.{ltb-false, eqb-true, eqb-false, eq-eqb}
+use Rattle.std.proofs.lemmas.Bool.{ltb-false, eqb-true, eqb-false, eq-eqb, ne_eqb}
 use Rattle.records.specs.declared.fields.Fields.{Fields}
 use Rattle.records.specs.declared.mark.Mark.{Mark}
 use Rattle.records.specs.declared.mark.NoMark.{NoMark}
@@ -15,8 +15,9 @@ use Rattle.records.specs.Meaning.{mark_says}
 use Rattle.loads.specs.IntervalsOf.{interval_code}
 use Rattle.records.specs.RecordsOf.{tare_kind_of, tare_value_of, record_of}
 use Rattle.records.specs.FieldsOf.{is_record, record_in}
-use Rattle.records.proofs.Lawful.{wrong_interval, wrong_tare, wrong_mark, wrong_net, wrong_price, same_record}
+use Rattle.records.proofs.Lawful.{code_at_most, unbounded, all_right, wrong_interval, wrong_tare, wrong_mark, wrong_net, wrong_price, same_record}
 use Rattle.records.proofs.fields.Fields.record.Goals as goal
+use Rattle.records.proofs.fields.Fields.record.Goals.{then-self-ne-KIND-via-then-self-ne-KIND, then-self-ne-KIND-via-else-self-ne-KIND+then-self-ne-SPARE, then-self-ne-KIND-via-else-self-ne-KIND+else-self-ne-SPARE+then-not-are_bounded}
 
 -- fields whose record is not lawful give none
 no_record : (f : Fields) → lawful (record_in f) ≡ false → None ≡ cond (is_record f) (Some (record_in f)) None
@@ -49,15 +50,29 @@ kept_or_none false found = refl
 
 -- a record that has the fields but for net and price: it is theirs where these agree too, and else theirs is not lawful
 module _ (f : Fields) (r : TheRecord) (net_is : r.net ≡ f.gross - f.tare) (price_is : r.price ≡ price_of (r.net * kg_of f.interval) f.unit_price)
-    (kind_is : f.kind ≡ 0xa1) (spare_is : f.spare ≡ 2 ^ 37 - 1) (same : f.net ≡ r.net → f.price ≡ r.price → r ≡ record_in f) where
-  is_kept : (a b : Bool) → eqb f.net r.net ≡ a → eqb f.price r.price ≡ b → cond (a && (b && lawful r)) (Some r) None ≡ cond (is_record f) (Some (record_in f)) None
+    (kind_is : f.kind ≡ 0xa1) (spare_is : f.spare ≡ 2 ^ 37 - 1) (same : f.net ≡ r.net → f.price ≡ r.price → r ≡ record_in f)
+    (ok : f.net ≡ r.net → f.price ≡ r.price → lawful (record_in f) ≡ true) where
+  is_kept : (a b : Bool) → eqb f.net r.net ≡ a → eqb f.price r.price ≡ b → cond (a && b) (Some r) None ≡ cond (is_record f) (Some (record_in f)) None
   is_kept false b e h = no_record f (wrong_net (record_in f) (λ q. eqb-false _ _ e (q ∙ sym net_is)))
   is_kept true false e h =
       no_record f (wrong_price (record_in f) (λ q. eqb-false _ _ h (q ∙ ap (λ n. price_of (n * kg_of f.interval) f.unit_price) (eqb-true _ _ e) ∙ sym price_is)))
   is_kept true true e h =
-      ap (λ x. cond (lawful x) (Some x) None) (same (eqb-true _ _ e) (eqb-true _ _ h))
+      ap Some (same (eqb-true _ _ e) (eqb-true _ _ h))
       ∙ sym (ap (λ b. cond (b && (eqb f.spare (2 ^ 37 - 1) && lawful (record_in f))) (Some (record_in f)) None) (eq-eqb _ _ kind_is)
-      ∙ ap (λ b. cond (b && lawful (record_in f)) (Some (record_in f)) None) (eq-eqb _ _ spare_is))
+      ∙ ap (λ b. cond (b && lawful (record_in f)) (Some (record_in f)) None) (eq-eqb _ _ spare_is)
+      ∙ ap (λ b. cond b (Some (record_in f)) None) (ok (eqb-true _ _ e) (eqb-true _ _ h)))
+
+pub returns-then-self-ne-KIND : goal.returns-then-self-ne-KIND
+returns-then-self-ne-KIND c =
+    let f = c.args.self in
+    elim c.then-self-ne-KIND.branch [
+      | then-self-ne-KIND-via-then-self-ne-KIND w ↦ sym (ap (λ b. cond (b && (eqb f.spare (2 ^ 37 - 1) && lawful (record_in f))) (Some (record_in f)) None) (ne_eqb f.kind 0xa1 w.if-self-ne-KIND.true))
+      | then-self-ne-KIND-via-else-self-ne-KIND+then-self-ne-SPARE w ↦
+          sym (ap (λ b. cond (eqb f.kind 0xa1 && (b && lawful (record_in f))) (Some (record_in f)) None) (ne_eqb f.spare (2 ^ 37 - 1) w.if-self-ne-SPARE.true)
+          ∙ ap (λ b. cond b (Some (record_in f)) None) (and-false (eqb f.kind 0xa1)))
+      | then-self-ne-KIND-via-else-self-ne-KIND+else-self-ne-SPARE+then-not-are_bounded w ↦
+          no_record f (unbounded (record_in f) (sym w.are_bounded.ensures ∙ w.if-not-are_bounded.true))
+    ]
 
 pub returns-in_err-from_code : goal.returns-in_err-from_code
 returns-in_err-from_code c =
@@ -89,8 +104,15 @@ returns c =
     let same : f.net ≡ r.net → f.price ≡ r.price → r ≡ record_in f =
     λ net price. same_record f.number f.day f.minute f.unit_price (interval_code i) f.interval f.gross (tare_kind_of t) f.tare_kind (tare_value_of t) f.tare
     f.net f.price codes m code says.1 says.2 mark net price in
+    let few : f.interval ≤ 5 = rw (← code) (code_at_most i) in
+    let number : f.number < 2 ^ 32 = search rules in
+    let day : f.day < 2 ^ 16 = search rules in
+    let ok : f.net ≡ r.net → f.price ≡ r.price → lawful (record_in f) ≡ true =
+    λ net price. all_right (record_in f) (sym c.are_bounded.ensures ∙ c.if-not-are_bounded.false) number day few says.0 (net ∙ ap (λ n. f.gross - n) says.2)
+    (price ∙ ap (λ n. price_of (n * kg_of (interval_code i)) f.unit_price) (sym net) ∙ ap (λ k. price_of (f.net * kg_of k) f.unit_price) code)
+    (ap lawful_mark (sym mark) ∙ c.in_ok-ok.field-0.known) in
     ap (option_map record_of) c.then_some.ensures
     ∙ kept_or_none c.agrees.result _
     ∙ ap (λ b. cond b (Some r) None) c.agrees.ensures
     ∙ is_kept f r (ap (λ n. f.gross - n) says.2) (ap (λ k. price_of (r.net * kg_of k) f.unit_price) code)
-    c.if-self-ne-KIND.false c.if-self-ne-SPARE.false same (eqb f.net r.net) (eqb f.price r.price) refl refl
+    c.if-self-ne-KIND.false c.if-self-ne-SPARE.false same ok (eqb f.net r.net) (eqb f.price r.price) refl refl
