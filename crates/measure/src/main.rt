@@ -8,11 +8,10 @@ ghost use Rattle.rules.specs.Records.{lawful};
 ghost use Rattle.rules.specs.Rows.{packing};
 ghost use Rattle.records.specs.RecordsOf.{record_of};
 
-use anyhow::{Context, anyhow};
+use anyhow::Context;
 use records::{Record, Verdict, judge};
 use std::alloc::Global;
 use std::env;
-use std::str::FromStr;
 use tours::example;
 
 /// What is done: rows are judged as they were packed, erased, or with a bit of the check turned; or records are packed, or their lines written.
@@ -25,17 +24,15 @@ enum Work {
     Line,
 }
 
-impl FromStr for Work {
-    type Err = anyhow::Error;
-
-    fn from_str(word: &str) -> anyhow::Result<Work> {
+/// A word that names no other work names the first.
+impl From<&str> for Work {
+    fn from(word: &str) -> Work {
         match word {
-            "intact" => Ok(Work::Intact),
-            "blank" => Ok(Work::Blank),
-            "torn" => Ok(Work::Torn),
-            "pack" => Ok(Work::Pack),
-            "line" => Ok(Work::Line),
-            _ => Err(anyhow!("no such work")),
+            "blank" => Work::Blank,
+            "torn" => Work::Torn,
+            "pack" => Work::Pack,
+            "line" => Work::Line,
+            _ => Work::Intact,
         }
     }
 }
@@ -119,11 +116,7 @@ fn write_lines(heap: Global, all: &[Sample]) -> anyhow::Result<u64> {
 
 fn main(rt: HostRuntime) -> anyhow::Result<()> {
     let mut words = env::args(&rt)?.skip(1);
-    let work = words
-        .next()
-        .context("what to do?")?
-        .as_str()
-        .parse::<Work>()?;
+    let work = Work::from(words.next().context("what to do?")?.as_str());
     let rounds = words
         .next()
         .context("how many rounds?")?
