@@ -1,5 +1,5 @@
 -- The bytes of a reply
-use Rattle.std.specs.Prelude.{ℕ, List, [], Ok, Err, Result, Option, None, Some}
+use Rattle.std.specs.Prelude.{ℕ, List, [], Ok, Err, Result}
 use Rattle.rules.specs.Terminal.{World, Answer, prints, print, refuses, acts}
 use Rattle.rules.specs.Replay.{refusal_line}
 use Rattle.player.specs.declared.fault.LineFault.{LineFault}
@@ -12,10 +12,9 @@ bytes_of Nothing = []
 bytes_of (Ticket text) = text
 bytes_of (Refusal text) = text
 
--- the bytes for what a line comes to: a ticket if one is printed, or a fault, which writes its refusal
-abbrev pub written : (line : ℕ) → Result (Option (List ℕ)) LineFault → List ℕ
-written line (Ok (Some ticket)) = ticket
-written line (Ok None) = []
+-- the bytes for what a line comes to: those of its reply, or of the refusal by a fault
+abbrev pub written : (line : ℕ) → Result Reply LineFault → List ℕ
+written line (Ok reply) = bytes_of reply
 written line (Err fault) = refusal_line (fault_number fault) line
 
 -- the refusal of a line by a fault

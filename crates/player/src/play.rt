@@ -69,8 +69,8 @@ impl<M: Medium> Player<M> {
         }
     }
 
-    /// Does what a line asks for, and gives the ticket that it prints, if it prints one.
-    fn obey(&mut self, item: Item<'_>) -> Result<Option<[u8; 76]>, LineFault>
+    /// Does what a line asks for, and gives what it writes unless it is refused.
+    fn obey(&mut self, item: Item<'_>) -> Result<Reply, LineFault>
         ensures says { plays (playing M.rows M.count self.old) item.entry.line (reading item.entry.asks) ≡ (written item.entry.line result, playing M.rows M.count self.new) }
         ensures lender { M.lender self.new.terminal.medium ≡ M.lender self.old.terminal.medium }
     {
@@ -97,15 +97,15 @@ impl<M: Medium> Player<M> {
                     mark,
                     unit_price,
                 };
-                return weigh_out(terminal, entered).map(Some);
+                return weigh_out(terminal, entered).map(Reply::Ticket);
             }
             Command::Reopen => terminal.reopen(self.settings),
             Command::Release { day, today } => {
                 terminal.release(day, today, None)?;
             }
-            Command::Print(number) => return print(terminal, number).map(Some),
+            Command::Print(number) => return print(terminal, number).map(Reply::Ticket),
         }
-        Ok(None)
+        Ok(Reply::Nothing)
     }
 
     /// Plays a line, and gives what it writes.
@@ -115,8 +115,7 @@ impl<M: Medium> Player<M> {
     {
         let line = item.line;
         match self.obey(item) {
-            Ok(Some(ticket)) => Reply::Ticket(ticket),
-            Ok(None) => Reply::Nothing,
+            Ok(reply) => reply,
             Err(fault) => Reply::refused(line, fault),
         }
     }

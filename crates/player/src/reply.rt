@@ -1,11 +1,12 @@
 //! What a line of a trace writes.
 
-ghost use Rattle.std.specs.Prelude.{◌≡◌};
+ghost use Rattle.std.specs.Prelude.{◌≡◌, ◌++◌, OnOk};
 ghost use Rattle.rules.specs.Replay.{refusal_line};
 ghost use Rattle.player.specs.Replies.{bytes_of};
 
 use records::decimal;
 use rules::Fault;
+use std::alloc::AllocError;
 
 /// What a line of a trace writes.
 #[derive(Clone, Copy)]
@@ -33,14 +34,16 @@ impl Reply {
         Reply::refusal(fault.number(), line)
     }
 
-    /// The bytes that it writes.
-    pub(crate) fn bytes(&self) -> &[u8]
-        ensures { result.now ≡ bytes_of self.now }
+    /// Writes its bytes behind those that are written.
+    // A match: each reply has a size of its own, and so it is copied without looking how long it is.
+    #[inline(always)]
+    pub(crate) fn write_to(self, out: &mut Vec<u8>) -> Result<(), AllocError>
+        ensures { OnOk result (out.new.items ≡ out.old.items ++ bytes_of self) }
     {
         match self {
-            Reply::Nothing => &[],
-            Reply::Ticket(line) => line,
-            Reply::Refusal(line) => line,
+            Reply::Nothing => Ok(()),
+            Reply::Ticket(line) => out.extend_from_slice(&line),
+            Reply::Refusal(line) => out.extend_from_slice(&line),
         }
     }
 }

@@ -28,8 +28,7 @@ impl Run<'_> {
         ensures lender { M.lender player.new.terminal.medium ≡ M.lender player.old.terminal.medium }
     {
         for item in self.reader {
-            let reply = player.play(item);
-            self.out.extend_from_slice(reply.bytes())?;
+            player.play(item).write_to(&mut self.out)?;
         }
         Ok(self.out)
     }
@@ -71,7 +70,7 @@ impl Run<'_> {
         while let Some(item) = self.reader.next_item() {
             match begin(item) {
                 Ok(beginning) => return self.play_from(beginning),
-                Err(reply) => self.out.extend_from_slice(reply.bytes())?,
+                Err(reply) => reply.write_to(&mut self.out)?,
             }
         }
         Ok(self.out)

@@ -12,7 +12,7 @@ returns-in-Ok c =
 
 pub loop-item-preserved : goal.loop-item-preserved
 loop-item-preserved c =
-    line_written _ _ _ _ _ _ _ _ _ _ _ _ c.in-Some.ensures.item c.in-Err.ensures.says c.bytes.ensures c.in_ok-extend_from_slice-in-Err.ensures.items
+    line_written _ _ _ _ _ _ _ _ _ _ _ _ c.in-Some.ensures.item c.in-Err.ensures.says refl c.in_ok-write_to-in-Err.ensures
     ∙ c.loop-item.invariant
 
 pub returns : goal.returns
