@@ -3,5 +3,6 @@ pub mod FaultsOf
 pub mod StatesOf
 pub mod Tares
 pub mod Meaning
+pub mod Kept
 pub mod Entries
 pub mod Answers

@@ -2,7 +2,10 @@
 
 ghost use Rattle.std.specs.Prelude.{◌≡◌, length, take, option_map};
 ghost use Rattle.rules.specs.Terminal.{store as a_store, print as a_print, verify as a_verify, release as a_release, buffer_after, acts};
+ghost use Rattle.records.specs.WeighingsOf.{weighing_of};
 ghost use Rattle.memory.specs.Entries.{entry_of};
+ghost use Rattle.indicator.specs.StatesOf.{pending_in};
+ghost use Rattle.indicator.specs.Kept.{Kept};
 ghost use Rattle.terminal.specs.Worlds.{world, Acts};
 ghost use Rattle.terminal.specs.Answers.{store_answer, print_answer, verify_answer, release_answer, asked, is_before};
 
@@ -12,7 +15,7 @@ use crate::fault::StoreFault;
 use crate::lines::{difference, fill};
 use media::Medium;
 use memory::{Entry, look_up, newest_in_order};
-use records::line_number;
+use records::{Weighing, line_number};
 
 /// Whether a day is before that of the newest record.
 fn is_before(day: u16, latest: Option<Entry>) -> bool
@@ -23,6 +26,14 @@ fn is_before(day: u16, latest: Option<Entry>) -> bool
 
 // Whoever writes to a medium owes the clause `lender`: it is a fact about the call, not about a value.
 impl<M: Medium> Terminal<M> {
+    /// The weighing that is pending, if one is. `kept` is what the indicator of every terminal keeps, whatever was done with it.
+    pub fn pending(&self) -> Option<Weighing>
+        ensures says { option_map weighing_of result ≡ pending_in self.now.indicator.state }
+        ensures kept { Kept self.now.indicator }
+    {
+        self.indicator.pending()
+    }
+
     /// Stores the weighing that is pending, under the number that is answered. A refusal hands the claim back.
     pub fn store(&mut self, claim: Claim) -> Result<u32, (Claim, StoreFault)>
         ensures says { Acts M.rows M.count a_store self.old (store_answer result) self.new }
