@@ -35,7 +35,8 @@ impl Reply {
     }
 
     /// Writes its bytes behind those that are written.
-    // A match, inlined: each reply has a size of its own, so it is copied without looking how long it is, and none copies nothing.
+    // A match, inlined: each reply has a size of its own, so it is copied without looking how long it is,
+    // and a line that writes nothing copies nothing.
     #[inline(always)]
     pub(crate) fn write_to(self, out: &mut Vec<u8>) -> Result<(), AllocError>
         ensures { OnOk result (out.new.items ≡ out.old.items ++ bytes_of self) }
