@@ -3,6 +3,6 @@ pub mod FaultsOf
 pub mod StatesOf
 pub mod Tares
 pub mod Meaning
-pub mod Kept
+pub mod Bounds
 pub mod Entries
 pub mod Answers

@@ -6,7 +6,7 @@ ghost use Rattle.rules.specs.Terminal.{sample as a_sample, key as a_key, set_zer
 ghost use Rattle.records.specs.WeighingsOf.{weighing_of};
 ghost use Rattle.loads.specs.SettingsOf.{settings_of};
 ghost use Rattle.indicator.specs.StatesOf.{pending_in};
-ghost use Rattle.indicator.specs.Kept.{Kept};
+ghost use Rattle.indicator.specs.Bounds.{InBounds};
 ghost use Rattle.indicator.specs.Answers.{answer, ActsOn, first_of, idle_refusals, untared_refusals, settled_refusals, tare_refusals};
 
 use crate::body::Indicator;
@@ -127,10 +127,10 @@ impl Indicator {
         Ok(())
     }
 
-    /// The weighing that is pending, if one is. `kept` is what every indicator keeps, whatever was done with it.
+    /// The weighing that is pending, if one is. Every indicator stays within its bounds (`bounds`), whatever was done with it.
     pub fn pending(&self) -> Option<Weighing>
         ensures says { option_map weighing_of result ≡ pending_in self.now.state }
-        ensures kept { Kept self.now }
+        ensures bounds { InBounds self.now }
     {
         match self.state {
             State::Pending(weighing) => Some(weighing),

@@ -5,7 +5,7 @@ ghost use Rattle.rules.specs.Terminal.{store as a_store, print as a_print, verif
 ghost use Rattle.records.specs.WeighingsOf.{weighing_of};
 ghost use Rattle.memory.specs.Entries.{entry_of};
 ghost use Rattle.indicator.specs.StatesOf.{pending_in};
-ghost use Rattle.indicator.specs.Kept.{Kept};
+ghost use Rattle.indicator.specs.Bounds.{InBounds};
 ghost use Rattle.terminal.specs.Worlds.{world, Acts};
 ghost use Rattle.terminal.specs.Answers.{store_answer, print_answer, verify_answer, release_answer, asked, is_before};
 
@@ -26,10 +26,10 @@ fn is_before(day: u16, latest: Option<Entry>) -> bool
 
 // Whoever writes to a medium owes the clause `lender`: it is a fact about the call, not about a value.
 impl<M: Medium> Terminal<M> {
-    /// The weighing that is pending, if one is. `kept` is what the indicator of every terminal keeps, whatever was done with it.
+    /// The weighing that is pending, if one is. The indicator of every terminal stays within its bounds (`bounds`), whatever was done with it.
     pub fn pending(&self) -> Option<Weighing>
         ensures says { option_map weighing_of result ≡ pending_in self.now.indicator.state }
-        ensures kept { Kept self.now.indicator }
+        ensures bounds { InBounds self.now.indicator }
     {
         self.indicator.pending()
     }
